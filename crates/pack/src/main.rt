@@ -265,15 +265,28 @@ fn say_done(rt: HostRuntime, run: Run, job: Job, keep: &File, b: Body)
     tool_console::stop(rt, Tool::Pack, 0, p.samples, 0, 0);
 }
 
+// The names of what is read and of what is written.
+#[derive(Clone, Copy)]
+struct Names<'a> {
+    from: &'a [u8],
+    to: &'a [u8],
+}
+
 // What failed, and the last line.
-fn failed(rt: HostRuntime, wrong: Amiss, in_name: &[u8], out_name: &[u8]) {
+fn failed(rt: HostRuntime, wrong: Amiss, names: Names<'_>) {
     match wrong {
-        Amiss::Unread(why) => tool_console::failed(rt, Tool::Pack, in_name, b"standard input", why),
+        Amiss::Unread(why) => tool_console::failed(
+            rt,
+            Tool::Pack,
+            names.from,
+            b"standard input",
+            why,
+        ),
         Amiss::Unkept(why) => tool_console::failed(rt, Tool::Pack, b"/tmp", b"/tmp", why),
         Amiss::Unwritten(why) => tool_console::failed(
             rt,
             Tool::Pack,
-            out_name,
+            names.to,
             b"standard output",
             why,
         ),
@@ -325,20 +338,12 @@ fn is_cut(left: usize, number: u32) -> bool {
 }
 
 // Nothing is written, and no file made, unless all of the sound was read and packed.
-fn finish(
-    rt: HostRuntime,
-    run: Run,
-    job: Job,
-    in_name: &[u8],
-    out_name: &[u8],
-    keep: &File,
-    page: &mut [u8],
-)
+fn finish(rt: HostRuntime, run: Run, job: Job, names: Names<'_>, keep: &File, page: &mut [u8])
     requires { Stands job run }
 {
     let amiss = run.wrong;
     if !is_well(amiss) {
-        failed(rt, amiss, in_name, out_name);
+        failed(rt, amiss, names);
         return;
     }
     let p = run.packed;
@@ -358,9 +363,9 @@ fn finish(
         skip: 0,
         size: p.octets,
     };
-    let wrong = write_stream(rt, run, job, out_name, keep, b, page);
+    let wrong = write_stream(rt, run, job, names.to, keep, b, page);
     if !is_well(wrong) {
-        failed(rt, wrong, in_name, out_name);
+        failed(rt, wrong, names);
         return;
     }
     say_done(rt, run, job, keep, b);
@@ -372,8 +377,7 @@ fn pack_sound(
     fd: &InFile,
     packed: PackAnswer,
     job: Job,
-    in_name: &[u8],
-    out_name: &[u8],
+    names: Names<'_>,
     part: &mut [u8],
     page: &mut [u8],
 )
@@ -395,21 +399,14 @@ fn pack_sound(
     match tool_console::nameless(rt) {
         Ok(keep) => {
             let run = all_parts(fd, &keep, start, job, part, page);
-            finish(rt, run, job, in_name, out_name, &keep, page);
+            finish(rt, run, job, names, &keep, page);
         }
-        Err(why) => failed(rt, Amiss::Unkept(why), in_name, out_name),
+        Err(why) => failed(rt, Amiss::Unkept(why), names),
     }
 }
 
 // The settings are judged by packing no sound, before any file is opened.
-fn pack_file(
-    rt: HostRuntime,
-    job: Job,
-    in_name: &[u8],
-    out_name: &[u8],
-    part: &mut [u8],
-    page: &mut [u8],
-)
+fn pack_file(rt: HostRuntime, job: Job, names: Names<'_>, part: &mut [u8], page: &mut [u8])
     requires { (length part.old ≡ part_size) × (length page.old ≡ page_size) }
 {
     let packed = tool_packing::packing::pack(b"", job.law, job.set, job.length as usize, page);
@@ -420,9 +417,9 @@ fn pack_file(
         tool_console::refused(rt, Tool::Pack, number, 0, 0, 0);
         return;
     }
-    match tool_console::open_in(rt, in_name) {
-        Ok(fd) => pack_sound(rt, &fd, packed, job, in_name, out_name, part, page),
-        Err(why) => failed(rt, Amiss::Unread(why), in_name, out_name),
+    match tool_console::open_in(rt, names.from) {
+        Ok(fd) => pack_sound(rt, &fd, packed, job, names, part, page),
+        Err(why) => failed(rt, Amiss::Unread(why), names),
     }
 }
 
@@ -454,7 +451,11 @@ fn pack_named(rt: HostRuntime, s: Settings, law: u32, in_name: &[u8], name: &mut
     };
     let mut part = [0u8; 61440];
     let mut page = [0u8; PAGE];
-    pack_file(rt, job, in_name, &name[..n], &mut part, &mut page);
+    let names = Names {
+        from: in_name,
+        to: &name[..n],
+    };
+    pack_file(rt, job, names, &mut part, &mut page);
 }
 
 // A law that no option tells is told by the ending of what is read.

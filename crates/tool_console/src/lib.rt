@@ -463,15 +463,21 @@ const LETTERS: usize = 6;
 // How many names are tried; another program may have made files of the same names.
 const NAMES: usize = 238328;
 
-// A name that no file should have yet: /tmp/g7110. and six letters.
-fn some_name(rt: HostRuntime) -> io::Result<[u8; 17]> {
+// The system's number of an error: there is a file of that name.
+const NAME_TAKEN: i32 = 17;
+
+// A name that no file should have yet: /tmp/g7110. and six letters. Where none can be drawn, they are told by how many were tried.
+fn some_name(rt: HostRuntime, tried: usize) -> [u8; 17] {
     let mut name = *b"/tmp/g7110.XXXXXX";
     let mut drawn = [0u8; LETTERS];
-    rt.fill_bytes(&mut drawn)?;
+    let _ = rt.fill_bytes(&mut drawn);
+    let mut n = tried;
     for i in 0..LETTERS {
-        name[11 + i] = b'a' + drawn[i] % 26;
+        let letter = (drawn[i] as usize + n % 26) % 26;
+        name[11 + i] = b'a' + letter as u8;
+        n /= 26;
     }
-    Ok(name)
+    name
 }
 
 // A file of such a name, read and written by its owner alone, unlinked at once.
@@ -489,8 +495,8 @@ fn made(rt: HostRuntime, name: &[u8]) -> io::Result<File> {
 
 // A file that has no name, to keep octets in: it is made as /tmp/g7110.XXXXXX and unlinked at once; the error says why none can be made.
 pub fn nameless(rt: HostRuntime) -> io::Result<File> {
-    for _ in 0..NAMES {
-        let name = some_name(rt)?;
+    for tried in 0..NAMES {
+        let name = some_name(rt, tried);
         match made(rt, &name) {
             Ok(file) => return Ok(file),
             Err(why) => {
@@ -500,7 +506,7 @@ pub fn nameless(rt: HostRuntime) -> io::Result<File> {
             }
         }
     }
-    Err(io::Error::from(ErrorKind::AlreadyExists))
+    Err(io::Error::from_raw_os_error(NAME_TAKEN))
 }
 
 // A file that was opened, to be read from any place on: its octets are first kept in a file that has no name. So a pipe can be read, and a

@@ -8,7 +8,7 @@ ghost use Rattle.tool_playback.specs.Runs.{no_total, Fit, behind_of, UnreadAfter
 ghost use Rattle.tool_playback.specs.Lines.{Behind};
 
 use crate::parts::{Part, Point, Reading, next_part};
-use crate::telling::{Tells, tell_part};
+use crate::telling::{Teller, Tells, tell_part};
 use recording::Ending;
 use std::fs::File;
 use std::io;
@@ -47,11 +47,10 @@ fn use_part(
 
 // Part after part, page by page.
 fn parts(
-    rt: HostRuntime,
+    to: Teller,
     body: &[u8],
     how: Reading,
     way: Way<'_>,
-    tells: Tells,
     base: Point,
     page: &mut [u8],
     master: &mut [u8],
@@ -68,7 +67,15 @@ fn parts(
     loop {
         let p = next_part(body, how, at, page, &mut cells);
         let u = use_part(body, how, at, p, way, page, master);
-        tell_part(rt, body, how, Point { at, items, samples }, p, tells, base);
+        tell_part(
+            to.rt,
+            body,
+            how,
+            Point { at, items, samples },
+            p,
+            to.tells,
+            base,
+        );
         let end = p.end;
         let wrong = u.wrong;
         items += p.items;
@@ -109,7 +116,15 @@ fn play(
 {
     let mut page = [0u8; 61440];
     let mut master = [0u8; 61440];
-    parts(rt, body, how, way, tells, base, &mut page, &mut master)
+    parts(
+        Teller { rt, tells },
+        body,
+        how,
+        way,
+        base,
+        &mut page,
+        &mut master,
+    )
 }
 
 // The octets of a file's frames or items: where they begin in it, and how many they are. The file itself stands beside.

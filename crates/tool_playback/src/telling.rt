@@ -15,6 +15,13 @@ pub enum Tells {
     All,
 }
 
+// What is told of the items, and where.
+#[derive(Clone, Copy)]
+pub struct Teller {
+    pub rt: HostRuntime,
+    pub tells: Tells,
+}
+
 // The line of a loss: `loss=I at=P samples=N before=S`.
 fn put_loss(number: usize, place: usize, samples: usize, heard: usize, out: &mut [u8]) -> usize
     requires { 160 ≤ length out.old }
@@ -65,16 +72,7 @@ fn say_frame(rt: HostRuntime, body: &[u8], how: Reading, here: Point, base: Poin
 }
 
 // Says an item, alone in its part: a loss always, a frame where all are told.
-fn say_item(
-    rt: HostRuntime,
-    body: &[u8],
-    how: Reading,
-    here: Point,
-    p: Part,
-    cell: u16,
-    tells: Tells,
-    base: Point,
-)
+fn say_item(to: Teller, body: &[u8], how: Reading, here: Point, p: Part, cell: u16, base: Point)
     requires { (here.at ≤ length body.now) × (NextItem body.now how here cell p) × Sums base here × Behind how base }
 {
     if p.items == 0 {
@@ -82,11 +80,11 @@ fn say_item(
     }
     if p.lost != 0 {
         let n = (cell - LOSS_FROM) as usize;
-        say_loss(rt, body, how, here, n, base);
+        say_loss(to.rt, body, how, here, n, base);
         return;
     }
-    match tells {
-        Tells::All => say_frame(rt, body, how, here, base),
+    match to.tells {
+        Tells::All => say_frame(to.rt, body, how, here, base),
         Tells::Losses => {}
         Tells::Nothing => {}
     }
@@ -110,7 +108,7 @@ fn tell(
     let mut left = items;
     while 0 < left {
         let p = next_part(body, how, here.at, &mut page, &mut one);
-        say_item(rt, body, how, here, p, one[0], tells, base);
+        say_item(Teller { rt, tells }, body, how, here, p, one[0], base);
         if !p.more {
             return;
         }

@@ -6,7 +6,6 @@ ghost use Rattle.tool_sound.specs.Uses.{is_well, UsesUpTo};
 
 use crate::wave::{Heading, Wrong};
 use std::io;
-use std::io::ErrorKind;
 use tool_console::{InFile, OutFile};
 use tool_words::options::{Form, Tool};
 
@@ -226,10 +225,13 @@ pub fn open_sound(rt: HostRuntime, fd: &InFile, form: Form, space: &mut [u8]) ->
     }
 }
 
+// The system's number where no call failed.
+const NO_ERROR: i32 = 0;
+
 // A part of a sound, written as linear values. A part has at most 61,440 samples.
 fn write_linear(fd: &OutFile, law: u32, sound: &[u8]) -> io::Result<()> {
     if 61440 < sound.len() {
-        return Err(io::Error::from(ErrorKind::InvalidInput));
+        return Err(io::Error::from_raw_os_error(NO_ERROR));
     }
     let mut octets = [0u8; 122880];
     let n = crate::masters::master_of(sound, law, &mut octets);
@@ -248,7 +250,7 @@ fn write_part(fd: &OutFile, form: Form, law: u32, sound: &[u8]) -> io::Result<()
 // The heading of a WAV file of so many samples, where its length can tell them; after an error some of it may be written.
 pub fn write_heading(fd: &OutFile, samples: usize) -> io::Result<()> {
     if 0x7FFFFFFF < samples {
-        return Err(io::Error::from(ErrorKind::InvalidInput));
+        return Err(io::Error::from_raw_os_error(NO_ERROR));
     }
     let heading = crate::wave::heading_for((2 * samples) as u32);
     tool_console::write_out(fd, &heading)

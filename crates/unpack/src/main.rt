@@ -125,8 +125,15 @@ fn tells_of(f: Flags) -> Tells {
     Tells::Losses
 }
 
+// The names of INFILE, and of OUTFILE or the master.
+#[derive(Clone, Copy)]
+struct Names<'a> {
+    from: &'a [u8],
+    to: &'a [u8],
+}
+
 // What came of writing the sound, and the last lines.
-fn written(rt: HostRuntime, t: Total, how: Reading, on: bool, from: &[u8], name: &[u8], fd: OutFile)
+fn written(rt: HostRuntime, t: Total, how: Reading, on: bool, names: Names<'_>, fd: OutFile)
     requires { Within longest t }
 {
     let wrong = t.wrong;
@@ -134,40 +141,39 @@ fn written(rt: HostRuntime, t: Total, how: Reading, on: bool, from: &[u8], name:
         Trouble::Unread(why) => tool_console::failed(
             rt,
             Tool::Unpack,
-            from,
+            names.from,
             b"standard input",
             why,
         ),
         Trouble::Nothing => match tool_console::close(fd) {
             Ok(()) => finish(rt, t, how.records, on),
-            Err(why) => tool_console::failed(rt, Tool::Unpack, name, b"standard output", why),
+            Err(why) => tool_console::failed(rt, Tool::Unpack, names.to, b"standard output", why),
         },
         Trouble::Failed(why) => tool_console::failed(
             rt,
             Tool::Unpack,
-            name,
+            names.to,
             b"standard output",
             why,
         ),
         Trouble::Master(_) => tool_console::failed(
             rt,
             Tool::Unpack,
-            name,
+            names.to,
             b"standard output",
             io::Error::from_raw_os_error(NO_ERROR),
         ),
     }
 }
 
-// The sound of a file, whose name is `from`, to another that was opened.
+// The sound of a file to another that was opened.
 fn write_in(
     rt: HostRuntime,
     file: &File,
     b: Body,
     how: Reading,
     s: Settings,
-    from: &[u8],
-    name: &[u8],
+    names: Names<'_>,
     fd: OutFile,
 )
     requires { Reachable b × Lawful how }
@@ -175,29 +181,21 @@ fn write_in(
     let f = s.flags;
     let form = s.form;
     if let Err(why) = heading_written(rt, file, b, how, form, &fd) {
-        tool_console::failed(rt, Tool::Unpack, name, b"standard output", why);
+        tool_console::failed(rt, Tool::Unpack, names.to, b"standard output", why);
         return;
     }
     let tells = tells_of(f);
     let t = play_file(rt, file, b, how, Way::Written(&fd, form), tells);
-    written(rt, t, how, f.on, from, name, fd);
+    written(rt, t, how, f.on, names, fd);
 }
 
-// Writes the sound of a file, whose name is `from`, to another.
-fn write_to(
-    rt: HostRuntime,
-    file: &File,
-    b: Body,
-    how: Reading,
-    s: Settings,
-    from: &[u8],
-    name: &[u8],
-)
+// Writes the sound of a file to another.
+fn write_to(rt: HostRuntime, file: &File, b: Body, how: Reading, s: Settings, names: Names<'_>)
     requires { Reachable b × Lawful how }
 {
-    match tool_console::open_out(rt, name) {
-        Ok(fd) => write_in(rt, file, b, how, s, from, name, fd),
-        Err(why) => tool_console::failed(rt, Tool::Unpack, name, b"standard output", why),
+    match tool_console::open_out(rt, names.to) {
+        Ok(fd) => write_in(rt, file, b, how, s, names, fd),
+        Err(why) => tool_console::failed(rt, Tool::Unpack, names.to, b"standard output", why),
     }
 }
 
@@ -227,15 +225,7 @@ fn conclude(rt: HostRuntime, t: Total, records: bool, on: bool, fd: &InFile, nam
 }
 
 // What a comparison came to. A frame that is refused comes before what a master has left over.
-fn compared(
-    rt: HostRuntime,
-    t: Total,
-    how: Reading,
-    on: bool,
-    from: &[u8],
-    name: &[u8],
-    fd: &InFile,
-)
+fn compared(rt: HostRuntime, t: Total, how: Reading, on: bool, names: Names<'_>, fd: &InFile)
     requires { Within longest t }
 {
     let wrong = t.wrong;
@@ -243,14 +233,14 @@ fn compared(
         Trouble::Unread(why) => tool_console::failed(
             rt,
             Tool::Unpack,
-            from,
+            names.from,
             b"standard input",
             why,
         ),
         Trouble::Failed(why) => tool_console::failed(
             rt,
             Tool::Unpack,
-            name,
+            names.to,
             b"standard input",
             why,
         ),
@@ -261,44 +251,35 @@ fn compared(
                 finish(rt, t, how.records, on);
                 return;
             }
-            conclude(rt, t, how.records, on, fd, name);
+            conclude(rt, t, how.records, on, fd, names.to);
         }
     }
 }
 
-// The sound of a file, whose name is `from`, compared with a master that was opened.
+// The sound of a file, compared with a master that was opened.
 fn compare_in(
     rt: HostRuntime,
     file: &File,
     b: Body,
     how: Reading,
     f: Flags,
-    from: &[u8],
-    name: &[u8],
+    names: Names<'_>,
     fd: &InFile,
 )
     requires { Reachable b × Lawful how }
 {
     let tells = tells_of(f);
     let t = play_file(rt, file, b, how, Way::Compared(fd), tells);
-    compared(rt, t, how, f.on, from, name, fd);
+    compared(rt, t, how, f.on, names, fd);
 }
 
-// Compares the sound of a file, whose name is `from`, with a master.
-fn compare_with(
-    rt: HostRuntime,
-    file: &File,
-    b: Body,
-    how: Reading,
-    s: Settings,
-    from: &[u8],
-    name: &[u8],
-)
+// Compares the sound of a file with a master.
+fn compare_with(rt: HostRuntime, file: &File, b: Body, how: Reading, s: Settings, names: Names<'_>)
     requires { Reachable b × Lawful how }
 {
-    match tool_console::open_in(rt, name) {
-        Ok(fd) => compare_in(rt, file, b, how, s.flags, from, name, &fd),
-        Err(why) => tool_console::failed(rt, Tool::Unpack, name, b"standard input", why),
+    match tool_console::open_in(rt, names.to) {
+        Ok(fd) => compare_in(rt, file, b, how, s.flags, names, &fd),
+        Err(why) => tool_console::failed(rt, Tool::Unpack, names.to, b"standard input", why),
     }
 }
 
@@ -325,7 +306,11 @@ fn to_other(rt: HostRuntime, file: &File, b: Body, how: Reading, s: Settings, na
     let mut space = [0u8; 4095];
     if s.master != 0 {
         let n = tool_console::file_name(rt, s.master, &mut space);
-        compare_with(rt, file, b, how, s, name, &space[..n]);
+        let names = Names {
+            from: name,
+            to: &space[..n],
+        };
+        compare_with(rt, file, b, how, s, names);
         return;
     }
     let target = tool_console::target_name(rt, s, how.law, name, &mut space);
@@ -334,7 +319,11 @@ fn to_other(rt: HostRuntime, file: &File, b: Body, how: Reading, s: Settings, na
         tool_console::usage(rt, Tool::Unpack, b"OUTFILE's name would be too long");
         return;
     }
-    write_to(rt, file, b, how, s, name, &space[..n]);
+    let names = Names {
+        from: name,
+        to: &space[..n],
+    };
+    write_to(rt, file, b, how, s, names);
 }
 
 // The octets of a file's frames are judged before any of them is read.

@@ -15,7 +15,7 @@ write_stream-wrong-requires c = (
   record {
     kept = c.requires.kept;
     one = c.requires.one;
-    well = well c;
+    well = well (goal.at.write_stream-wrong-requires c).After-write_stream-arg-1;
   },
   refl,
   (kept-most c.requires.one, omega arith),

@@ -1,11 +1,9 @@
-use borrow.Author.Rules.{rules}
-use Prim.Native.Nat.{◌-◌}
 use mathlib.Core.Path.{refl, ap, ◌∙◌}
 use native.Mathlib.Omega.{arith}
 use Rattle.rules.specs.Samples.{plus_zero}
 use Rattle.tool_packing.specs.Cuts.{to_fill}
 use Rattle.law.proofs.Mask.{mask-small}
-use Rattle.rules.proofs.Lent.{Filling, fill_start, fill-length, fill-turn}
+use Rattle.rules.proofs.Lent.{fill_start, fill-length, fill-turn}
 use Rattle.tool_packing.proofs.Filling.{fill_done}
 use Rattle.tool_packing.proofs.cutting.fill_up.Goals as goal
 

@@ -1,4 +1,3 @@
-use borrow.Author.Rules.{rules}
 use mathlib.Core.Path.{refl}
 use Rattle.tool_packing.proofs.cutting.may_go_on.Goals as goal
 

@@ -1,4 +1,3 @@
-use borrow.Author.Rules.{rules}
 use Rattle.tool_packing.proofs.Part.{frame-put}
 use Rattle.tool_packing.proofs.packing.put_frame.Goals as goal
 

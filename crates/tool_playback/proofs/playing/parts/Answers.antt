@@ -10,21 +10,21 @@ use Rattle.tool_playback.proofs.Running.{number-most, heard-most, at_most, lost-
 use Rattle.tool_playback.proofs.playing.parts.Goals.{After-next_part-p, After-use_part-u}
 use Rattle.tool_playback.proofs.playing.parts.Goals as goal
 
-pub loop-rt-init : goal.loop-rt-init
-loop-rt-init c = (going-first _ _ _ _, refl)
+pub loop-to-init : goal.loop-to-init
+loop-to-init c = (going-first _ _ _ _, refl)
 
 -- the next part was made: what the loop held, and how far it comes
 module _ (c : After-next_part-p) where
   page-kept : length c.next_part-p.new.out ≡ length c.args.page.now
-  page-kept = c.next_part-p.auto.out ∙ c.loop-rt.invariant.0.page-size
+  page-kept = c.next_part-p.auto.out ∙ c.loop-to.invariant.0.page-size
 
-  further : let l = c.loop-rt in
+  further : let l = c.loop-to in
       let r = c.next_part-p.result in
       let size = length c.args.body.now in
       (l.lost + r.lost ≤ l.items + r.items) × (r.at ≤ size) × (l.items + r.items ≤ size)
       × (l.samples + r.samples ≤ 320 * (l.items + r.items))
   further =
-      let w = c.loop-rt.invariant.0 in
+      let w = c.loop-to.invariant.0 in
       let f = w.follows in
       let g = c.next_part-p.ensures.goes in (
         omega (arith, lost-most _ _ w, g.some),
@@ -35,13 +35,13 @@ module _ (c : After-next_part-p) where
 
 -- and used
 module _ (c : After-use_part-u) where
-  further' : let l = c.loop-rt in
+  further' : let l = c.loop-to in
       let r = c.next_part-p.result in
       let size = length c.args.body.now in
       (l.lost + r.lost ≤ l.items + r.items) × (r.at ≤ size) × (l.items + r.items ≤ size)
       × (l.samples + r.samples ≤ 320 * (l.items + r.items))
   further' =
-      let w = c.loop-rt.invariant.0 in
+      let w = c.loop-to.invariant.0 in
       let f = w.follows in
       let g = c.next_part-p.ensures.goes in (
         omega (arith, lost-most _ _ w, g.some),
@@ -51,14 +51,14 @@ module _ (c : After-use_part-u) where
       )
 
   master-kept : length c.use_part-u.new.master ≡ length c.args.master.now
-  master-kept = c.use_part-u.auto.master ∙ c.loop-rt.invariant.1
+  master-kept = c.use_part-u.auto.master ∙ c.loop-to.invariant.1
 
-  heard : c.loop-rt.samples + c.use_part-u.result.good ≤ 320 * (c.loop-rt.items + c.next_part-p.result.items)
+  heard : c.loop-to.samples + c.use_part-u.result.good ≤ 320 * (c.loop-to.items + c.next_part-p.result.items)
   heard = omega (arith, further'.3, c.use_part-u.ensures.most)
 
 pub use_part-u-requires : goal.use_part-u-requires
 use_part-u-requires c =
-    let w = c.loop-rt.invariant in
+    let w = c.loop-to.invariant in
     let l = c.next_part-p.auto.out in (
       next-sound _ _ w.0.follows c.next_part-p.ensures.next_part,
       omega (arith, c.next_part-p.ensures.goes.fits, l),
@@ -68,7 +68,7 @@ use_part-u-requires c =
 pub tell_part-requires : goal.tell_part-requires
 tell_part-requires c =
     let p = c.requires in
-    (p.0, c.loop-rt.invariant.0.follows, p.3)
+    (p.0, c.loop-to.invariant.0.follows, p.3)
 
 pub overflow_add-items : goal.overflow_add-items
 overflow_add-items c = omega (arith, (further (goal.at.overflow_add-items c).After-next_part-p).2, c.requires.0)
@@ -99,24 +99,24 @@ shape_of-master-then-not-p c = master-kept (goal.at.shape_of-master-then-not-p c
 
 pub returns-then-not-p : goal.returns-then-not-p
 returns-then-not-p c =
-    let f = further (goal.at.returns-then-not-p c).After-next_part-p in let w = c.loop-rt.invariant.0 in record {
+    let f = further (goal.at.returns-then-not-p c).After-next_part-p in let w = c.loop-to.invariant.0 in record {
       tells_file = (λ e. goes-whole _ _ w.follows c.next_part-p.ensures.next_part (not-true _ c.if-not-p.true) w.losses
           (c.use_part-u.ensures.all e));
       within = record { some = f.0; ends = f.1; few = f.2; held = heard (goal.at.returns-then-not-p c).After-use_part-u };
     }
 
-pub loop-rt-smaller : goal.loop-rt-smaller
-loop-rt-smaller c =
-    let w = c.loop-rt.invariant.0 in
+pub loop-to-smaller : goal.loop-to-smaller
+loop-to-smaller c =
+    let w = c.loop-to.invariant.0 in
     let g = c.next_part-p.ensures.goes in
     let more : c.next_part-p.result.more ≡ true = not-false _ c.if-not-p.false in
     omega (arith, g.nearer (omega (arith, w.page-size, c.requires.1)) (omega (arith, w.cells-size)) more, g.inside more)
 
-pub loop-rt-preserved : goal.loop-rt-preserved
-loop-rt-preserved c =
+pub loop-to-preserved : goal.loop-to-preserved
+loop-to-preserved c =
     let n = c.next_part-p in
     let well = sym c.is_well.ensures ∙ c.if-not-is_well.false in (
-      going_on _ _ c.loop-rt.invariant.0 n.ensures.next_part n.auto.out n.auto.cells
+      going_on _ _ c.loop-to.invariant.0 n.ensures.next_part n.auto.out n.auto.cells
           (c.use_part-u.ensures.all well) (not-false _ c.if-not-p.false),
-      master-kept (goal.at.loop-rt-preserved c).After-use_part-u,
+      master-kept (goal.at.loop-to-preserved c).After-use_part-u,
     )
