@@ -1,3 +1,4 @@
+use borrow.Author.Rules.{rules}
 use Rattle.tool_words.proofs.options.step.Goals as goal
 
 pub returns-in-Ready : goal.returns-in-Ready
@@ -11,4 +12,4 @@ returns-in-Counts c =
     rw c.in-Counts.is e
 
 pub returns-in-Master : goal.returns-in-Master
-returns-in-Master c = rw c.in-Master.is c.with_master.ensures
+returns-in-Master c = rw c.in-Master.is (search rules)
