@@ -272,7 +272,8 @@ module _ (place : ℕ) (nine : 9 ≤ place) where
   points-filled a zero = points-give a
   points-filled {A = A} {W = W} a (suc n) =
       points-here (λ at. points-go at at 1 1 firm-bit far-bit near-bit points-bit (λ f.
-      points-cond (eqb f 0) (λ t. points-filled {W = Between (at + 1) (at + 1)} a n) (λ t. points-fail (at + 1) (at + 1) Align at (λ n h. omega arith) (omega arith))))
+      points-cond (eqb f 0) (λ t. points-filled {W =
+      Between (at + 1) (at + 1)} a n) (λ t. points-fail (at + 1) (at + 1) Align at (λ n h. omega arith) (omega arith))))
 
   -- "the first bit of the run's code": at least one bit of it has been read, at most zero N + 1
   points-zeros : (lo hi start k left : ℕ) → start < lo + left → hi + left ≤ start + 330 → Points place (Between lo hi) (zeros_from start k left)

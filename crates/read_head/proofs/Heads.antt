@@ -115,7 +115,8 @@ module _ (mask set room : ℕ) (l : LawMask mask) (s : List ℕ) (h : 1 ≤ leng
           (bits_of-below s) (mark_at n + 1) j (omega (arith, inside, mark-few n))
 
 -- a frame: its first octet, and then what that begins
-frame-agrees : (mask set room : ℕ) → LawMask mask → (s : List ℕ) → Agrees (and_then (number 8 (bits_of s) 0) (λ o j. head_after set (first_octet o) (bits_of s) j))
+frame-agrees : (mask set room : ℕ) → LawMask mask → (s : List ℕ) → Agrees
+    (and_then (number 8 (bits_of s) 0) (λ o j. head_after set (first_octet o) (bits_of s) j))
     (frame mask set room (bits_of s) 0)
 unfolding frame
 frame-agrees mask set room l s = go (number 8 (bits_of s) 0) refl

@@ -166,7 +166,8 @@ samples-told (lost n) h = rw (le-leb loss_from (loss_from + n) (omega arith)) (o
 -- an item that was read
 pub piece-found : (p : Piece) → Few p → {at : ℕ} {r : Played} {out out' cells cells' : List ℕ}
     → Plays (recorded_of p at) r out out' cells cells' → r.end ≡ Done → {kind samples tool : ℕ}
-    → kind ≡ cond (leb loss_from (get_or cells' 0 0)) 1 0 → samples ≡ cond (leb loss_from (get_or cells' 0 0)) (get_or cells' 0 0 - loss_from) (get_or cells' 0 0)
+    → kind ≡ cond (leb loss_from (get_or cells' 0 0)) 1 0 → samples ≡ cond (leb loss_from (get_or cells' 0 0))
+    (get_or cells' 0 0 - loss_from) (get_or cells' 0 0)
     → tool ≡ piece_tool p
     → Tells p at (record { end = Done; kind = kind; samples = samples; octets = r.place - at; tool = tool; bit = 0; place = r.place }) out out'
 unfolding sound_in

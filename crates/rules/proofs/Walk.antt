@@ -300,7 +300,8 @@ module _ (octets : List ℕ) (law set : ℕ) where
       let v : at + (octets_used f + octets_kept a) ≡ at + octets_used f + octets_kept a = omega arith in
       let m : room - length (f.samples ++ samples_kept a) ≡ room - length f.samples - length (samples_kept a)
       = omega (arith, length-append f.samples (samples_kept a)) in
-      rw (← same, u, v, m) (ap (before (record { place = at; found = f })) (from-any {n = n} {at = at + octets_used f} {room = room - length f.samples} t a b rest))
+      rw (← same, u, v, m) (ap (before (record { place = at; found = f }))
+      (from-any {n = n} {at = at + octets_used f} {room = room - length f.samples} t a b rest))
 
   pub walk-from-any : (n at room : ℕ) (a b : List Delivered) → (walk_from n octets law set at room).frames ≡ a ++ b
       → walk_from n octets law set at room ≡ after a

@@ -32,7 +32,9 @@ pub overflow_cast-v-2 : goal.overflow_cast-v-2
 overflow_cast-v-2 c = rw (over c).bits (tt, record { fits = omega (arith, (over c).small) })
 
 pub overflow_add-v-2 : goal.overflow_add-v-2
-overflow_add-v-2 c = rw (over (goal.at.overflow_add-v-2 c).Else-v-lt0).bits (record { fits = omega (arith, (over (goal.at.overflow_add-v-2 c).Else-v-lt0).small) })
+overflow_add-v-2 c =
+    rw (over (goal.at.overflow_add-v-2 c).Else-v-lt0).bits (record
+    { fits = omega (arith, (over (goal.at.overflow_add-v-2 c).Else-v-lt0).small) })
 
 pub returns : goal.returns
 unfolding m_of

@@ -50,7 +50,13 @@ overflow_add-result c =
     let l = c.constants_of-l in
     let k = c.code_of.result in
     let s = sound-as c.args.law l.ensures in
-    record { fits = omega (arith, xor_lt 7 (k - l.result.step) l.result.mask (omega (arith, ready (goal.at.overflow_add-result c).After-struct_known-1)) s.mask) }
+    record {
+      fits = omega (
+        arith,
+        xor_lt 7 (k - l.result.step) l.result.mask
+            (omega (arith, ready (goal.at.overflow_add-result c).After-struct_known-1)) s.mask,
+      );
+    }
 
 pub returns : goal.returns
 returns c =

@@ -27,7 +27,8 @@ pub returns-in-Refused : goal.returns-in-Refused
 returns-in-Refused c =
     let r = c.pass-r.ensures in let n = step-last c.args.stream.now c.args.law c.last-in-Refused.ensures c.requires.0 c.requires.1 c.requires.2
     (rw c.refusal_number.ensures
-    (left-refused c.args.stream.now c.args.law c.args.s c.requires.1 (omega arith) r.tells c.in-Refused.is)) in record { lists = n.0; less = n.1; size = r.size }
+    (left-refused c.args.stream.now c.args.law c.args.s c.requires.1 (omega arith) r.tells c.in-Refused.is)) in record
+    { lists = n.0; less = n.1; size = r.size }
 
 pub returns-in-Done : goal.returns-in-Done
 returns-in-Done c =

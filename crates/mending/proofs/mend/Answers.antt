@@ -27,7 +27,8 @@ pub returns-then-out-result : goal.returns-then-out-result
 returns-then-out-result c =
     let x = c.args in
     declined-as c.declined.ensures
-    (no_room x.octets.now x.law x.total (length x.out.now) (met (goal.at.returns-then-out-result c).In-Done) (omega (arith, (told (goal.at.returns-then-out-result c).In-Done).octets))) x.out.now
+    (no_room x.octets.now x.law x.total (length x.out.now) (met (goal.at.returns-then-out-result c).In-Done)
+    (omega (arith, (told (goal.at.returns-then-out-result c).In-Done).octets))) x.out.now
 
 pub slice_bounds-put_word-end : goal.slice_bounds-put_word-end
 slice_bounds-put_word-end c =

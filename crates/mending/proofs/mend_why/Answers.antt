@@ -58,10 +58,13 @@ pub returns-then-result-gt-LONGEST : goal.returns-then-result-gt-LONGEST
 returns-then-result-gt-LONGEST c =
     let a = c.args in
     declined-told c.declined-then-result-gt-LONGEST.ensures
-    (result-long a.octets.now a.law a.total (omega arith) (omega arith) (whole (goal.at.returns-then-result-gt-LONGEST c).After-walk_on-w) (omega (arith, long (goal.at.returns-then-result-gt-LONGEST c).After-fill_octets)))
+    (result-long a.octets.now a.law a.total (omega arith) (omega arith)
+    (whole (goal.at.returns-then-result-gt-LONGEST c).After-walk_on-w)
+    (omega (arith, long (goal.at.returns-then-result-gt-LONGEST c).After-fill_octets)))
 
 pub returns : goal.returns
 returns c =
     let a = c.args in
     answers-as a.octets.now a.law a.total c.walk_on-w.ensures
-    (told-it a.octets.now a.law a.total (omega arith) (omega arith) (whole (goal.at.returns c).After-walk_on-w) (omega (arith, long (goal.at.returns c).After-fill_octets))) (long (goal.at.returns c).After-fill_octets)
+    (told-it a.octets.now a.law a.total (omega arith) (omega arith) (whole (goal.at.returns c).After-walk_on-w)
+    (omega (arith, long (goal.at.returns c).After-fill_octets))) (long (goal.at.returns c).After-fill_octets)

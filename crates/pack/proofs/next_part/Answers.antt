@@ -63,9 +63,11 @@ module _ (c : After-pack_on-p) where
   abbrev page : List ℕ
   page = c.pack_on-p.new.page
 
-  adds : Adds (length (take ((c.read_part-got.result.count) + c.filled_up-filled.result) c.filled_up-filled.new.part)) (length c.args.page.now) c.args.run.packed c.pack_on-p.result
+  adds : Adds (length (take ((c.read_part-got.result.count) + c.filled_up-filled.result) c.filled_up-filled.new.part))
+      (length c.args.page.now) c.args.run.packed c.pack_on-p.result
   adds =
-      part-adds c.args.job c.args.run c.requires.0 c.requires.1 (take ((c.read_part-got.result.count) + c.filled_up-filled.result) c.filled_up-filled.new.part) c.args.page.now
+      part-adds c.args.job c.args.run c.requires.0 c.requires.1
+      (take ((c.read_part-got.result.count) + c.filled_up-filled.result) c.filled_up-filled.new.part) c.args.page.now
       page octets part-most'
       c.requires.3 c.pack_on-p.ensures
 
@@ -75,7 +77,8 @@ module _ (c : After-pack_on-p) where
   next : NextOctets c.args.job c.args.run.packed c.pack_on-p.result
       (take (c.pack_on-p.result.octets - c.args.run.packed.octets) page)
   next =
-      next-octets c.args.job c.args.run c.requires.0 c.requires.1 (take ((c.read_part-got.result.count) + c.filled_up-filled.result) c.filled_up-filled.new.part) c.args.page.now
+      next-octets c.args.job c.args.run c.requires.0 c.requires.1
+      (take ((c.read_part-got.result.count) + c.filled_up-filled.result) c.filled_up-filled.new.part) c.args.page.now
       page octets part-most'
       c.requires.3 c.pack_on-p.ensures
 
@@ -107,7 +110,8 @@ shape_of-part-in-Err c = c.filled_up-filled.auto.part ∙ c.read_part-got.auto.p
 
 pub returns-in-Err : goal.returns-in-Err
 returns-in-Err c =
-    let t = run-stopped c.args.job c.args.run c.stopped-in-Err.result c.requires.0 c.requires.1 c.stopped-in-Err.ensures in record { stands = t.stands; less = t.less }
+    let t = run-stopped c.args.job c.args.run c.stopped-in-Err.result c.requires.0 c.requires.1 c.stopped-in-Err.ensures in
+    record { stands = t.stands; less = t.less }
 
 pub returns : goal.returns
 returns c =
@@ -118,6 +122,9 @@ returns c =
       wrong = Nothing;
       left = c.read_part-got.result.left;
     } in let t =
-    part-taken c.args.job c.args.run c.requires.0 c.requires.1 (take ((c.read_part-got.result.count) + c.filled_up-filled.result) c.filled_up-filled.new.part) c.args.page.now (c.pack_on-p.new.page) (octets (goal.at.returns c).After-pack_on-p)
-    (part-most (goal.at.returns c).After-filled_up-filled) c.requires.3 c.pack_on-p.ensures (c.read_part-got.result.count) (omega (arith, part_length (goal.at.returns c).After-filled_up-filled)) r refl c.may_go_on-more.ensures
+    part-taken c.args.job c.args.run c.requires.0 c.requires.1
+    (take ((c.read_part-got.result.count) + c.filled_up-filled.result) c.filled_up-filled.new.part) c.args.page.now
+    (c.pack_on-p.new.page) (octets (goal.at.returns c).After-pack_on-p)
+    (part-most (goal.at.returns c).After-filled_up-filled) c.requires.3 c.pack_on-p.ensures (c.read_part-got.result.count)
+    (omega (arith, part_length (goal.at.returns c).After-filled_up-filled)) r refl c.may_go_on-more.ensures
     in record { stands = t.stands; less = t.less }

@@ -21,12 +21,16 @@ module _ (c : After-next_bits) where
 pub loop-place-preserved : goal.loop-place-preserved
 loop-place-preserved c =
     let l = c.least.ensures in
-    let i = c.loop-place.invariant.1 in
-    (omega arith, window_more _ _ _ _ c.next_bits.ensures (leads (goal.at.loop-place-preserved c).After-next_bits) i (omega arith) (omega arith) (omega arith) (omega arith))
+    let i = c.loop-place.invariant.1 in (
+      omega arith,
+      window_more _ _ _ _ c.next_bits.ensures (leads (goal.at.loop-place-preserved c).After-next_bits) i (omega arith)
+          (omega arith) (omega arith) (omega arith),
+    )
 
 pub returns-then-n-k : goal.returns-then-n-k
 returns-then-n-k c =
-    window-run _ _ _ _ c.next_bits.ensures (leads (goal.at.returns-then-n-k c).After-next_bits) c.loop-place.invariant.1 (omega arith) (omega arith) (omega arith)
+    window-run _ _ _ _ c.next_bits.ensures (leads (goal.at.returns-then-n-k c).After-next_bits) c.loop-place.invariant.1
+    (omega arith) (omega arith) (omega arith)
 
 pub returns-else-n-k : goal.returns-else-n-k
 returns-else-n-k c =
@@ -41,5 +45,6 @@ returns-then-octets-place c =
 pub returns-then-n-k-2 : goal.returns-then-n-k-2
 returns-then-n-k-2 c =
     let l = c.least.ensures in
-    window-all-run _ _ _ _ c.next_bits.ensures (leads (goal.at.returns-then-n-k-2 c).After-next_bits) c.loop-place.invariant.1 (omega arith) (omega arith) (omega arith)
+    window-all-run _ _ _ _ c.next_bits.ensures (leads (goal.at.returns-then-n-k-2 c).After-next_bits) c.loop-place.invariant.1
+    (omega arith) (omega arith) (omega arith)
     (omega arith)

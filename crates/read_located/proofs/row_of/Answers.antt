@@ -39,7 +39,8 @@ returns-then-n-lt240 c =
 pub returns-then-flag-eq1 : goal.returns-then-flag-eq1
 returns-then-flag-eq1 c =
     let t = octets (goal.at.returns-then-flag-eq1 c).Start in
-    flagged (goal.at.returns-then-flag-eq1 c).Start case0 (is-case0 c.args.case (omega arith)) (omega arith) (omega arith) (rw (t.one, t.minus, t.less)) c.some.ensures
+    flagged (goal.at.returns-then-flag-eq1 c).Start case0 (is-case0 c.args.case (omega arith)) (omega arith) (omega arith)
+    (rw (t.one, t.minus, t.less)) c.some.ensures
 
 pub returns-then-case-eq0 : goal.returns-then-case-eq0
 returns-then-case-eq0 c =
@@ -50,26 +51,31 @@ returns-then-case-eq0 c =
 pub returns-then-flag-eq1-2 : goal.returns-then-flag-eq1-2
 returns-then-flag-eq1-2 c =
     let t = octets (goal.at.returns-then-flag-eq1-2 c).Start in
-    flagged (goal.at.returns-then-flag-eq1-2 c).Start case1 (is-case1 c.args.case (omega arith)) (omega arith) (omega arith) (rw (t.one, t.minus)) c.some-then-flag-eq1-2.ensures
+    flagged (goal.at.returns-then-flag-eq1-2 c).Start case1 (is-case1 c.args.case (omega arith)) (omega arith) (omega arith)
+    (rw (t.one, t.minus)) c.some-then-flag-eq1-2.ensures
 
 pub returns-then-case-eq1 : goal.returns-then-case-eq1
 returns-then-case-eq1 c =
     let t = octets (goal.at.returns-then-case-eq1 c).Start in
-    plain (goal.at.returns-then-case-eq1 c).Start case1 (is-case1 c.args.case (omega arith)) (omega arith) (λ e. omega arith) (rw (t.one, t.minus)) c.some-then-case-eq1.ensures
+    plain (goal.at.returns-then-case-eq1 c).Start case1 (is-case1 c.args.case (omega arith)) (omega arith) (λ e. omega arith)
+    (rw (t.one, t.minus)) c.some-then-case-eq1.ensures
 
 pub returns-then-flag-eq1-3 : goal.returns-then-flag-eq1-3
 returns-then-flag-eq1-3 c =
-    flagged (goal.at.returns-then-flag-eq1-3 c).Start case2 (is-case2 c.args.case (omega arith)) (omega arith) (omega arith) refl c.no_row-then-flag-eq1-3.ensures
+    flagged (goal.at.returns-then-flag-eq1-3 c).Start case2 (is-case2 c.args.case (omega arith)) (omega arith) (omega arith) refl
+    c.no_row-then-flag-eq1-3.ensures
 
 pub returns-then-case-eq2 : goal.returns-then-case-eq2
 returns-then-case-eq2 c =
     let t = octets (goal.at.returns-then-case-eq2 c).Start in
-    plain (goal.at.returns-then-case-eq2 c).Start case2 (is-case2 c.args.case (omega arith)) (omega arith) (λ e. omega arith) (rw (t.minus, t.less)) c.some-then-case-eq2.ensures
+    plain (goal.at.returns-then-case-eq2 c).Start case2 (is-case2 c.args.case (omega arith)) (omega arith) (λ e. omega arith)
+    (rw (t.minus, t.less)) c.some-then-case-eq2.ensures
 
 pub returns-then-flag-eq1-4 : goal.returns-then-flag-eq1-4
 returns-then-flag-eq1-4 c =
     let t = octets (goal.at.returns-then-flag-eq1-4 c).Start in
-    flagged (goal.at.returns-then-flag-eq1-4 c).Start case3 (is-case3 c.args.case (omega arith)) (omega arith) (omega arith) (rw t.one) c.some-then-flag-eq1-4.ensures
+    flagged (goal.at.returns-then-flag-eq1-4 c).Start case3 (is-case3 c.args.case (omega arith)) (omega arith) (omega arith)
+    (rw t.one) c.some-then-flag-eq1-4.ensures
 
 pub returns : goal.returns
 returns c =

@@ -67,7 +67,10 @@ loop-t-preserved c =
     runs-turn f (omega arith) v.says (omega arith) c.if-v-left.false v.next
 
 pub overflow_add-cells : goal.overflow_add-cells
-overflow_add-cells c = let f = reached (goal.at.overflow_add-cells c).After-several-t in let v = one (goal.at.overflow_add-cells c).After-run c.in-Got.is in let told = runs-turn f (omega arith) v.says (omega arith) c.if-v-left.false v.next in
+overflow_add-cells c =
+    let f = reached (goal.at.overflow_add-cells c).After-several-t in
+    let v = one (goal.at.overflow_add-cells c).After-run c.in-Got.is in
+    let told = runs-turn f (omega arith) v.says (omega arith) c.if-v-left.false v.next in
     omega (arith, told.within)
 
 pub bounds-cells-filled : goal.bounds-cells-filled
@@ -89,7 +92,8 @@ loop-t-smaller c =
 pub returns-then-t-gt0 : goal.returns-then-t-gt0
 returns-then-t-gt0 c =
     let r = c.several-t.ensures in
-    rw c.ended.ensures (marks-filled (runs-ended (t (goal.at.returns-then-t-gt0 c).After-several-t) (reached (goal.at.returns-then-t-gt0 c).After-several-t) (r.last (omega arith)) r.small) c.fill.ensures)
+    rw c.ended.ensures (marks-filled (runs-ended (t (goal.at.returns-then-t-gt0 c).After-several-t)
+    (reached (goal.at.returns-then-t-gt0 c).After-several-t) (r.last (omega arith)) r.small) c.fill.ensures)
 
 pub returns-then-d-filled : goal.returns-then-d-filled
 returns-then-d-filled c =

@@ -36,7 +36,13 @@ pub binary-requires : goal.binary-requires
 binary-requires c = (omega (arith, c.requires.0.at), (ranged (goal.at.binary-requires c).Start).1, c.requires.2, lent (goal.at.binary-requires c).Start)
 
 pub plus_minus-requires : goal.plus_minus-requires
-plus_minus-requires c = (omega (arith, c.requires.0.at), (ranged (goal.at.plus_minus-requires c).Start).1, c.requires.2, lent (goal.at.plus_minus-requires c).Start)
+plus_minus-requires c = (
+  omega (arith, c.requires.0.at),
+  (ranged (goal.at.plus_minus-requires c).Start).1,
+  c.requires.2,
+  lent
+      (goal.at.plus_minus-requires c).Start,
+)
 
 pub few_values-requires : goal.few_values-requires
 few_values-requires c = let p = c.requires in (p.0, p.2, p.3, p.4)

@@ -23,8 +23,14 @@ module _ (c : Start) where
   either b = cond b (fractional c.args.mask c.args.h.mark c.args.h.len) (located c.args.mask c.args.h.len)
 
 pub body-requires : goal.body-requires
-body-requires c =
-    (omega (arith, c.requires.0.at), (ranged (goal.at.body-requires c).Start).1, forties c.args.h.len c.requires.0.len, c.requires.0.mark, c.requires.1, c.requires.3)
+body-requires c = (
+  omega (arith, c.requires.0.at),
+  (ranged (goal.at.body-requires c).Start).1,
+  forties c.args.h.len c.requires.0.len,
+  c.requires.0.mark,
+  c.requires.1,
+  c.requires.3,
+)
 
 pub returns-then-h-eq11 : goal.returns-then-h-eq11
 returns-then-h-eq11 c =

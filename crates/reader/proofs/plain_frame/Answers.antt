@@ -23,7 +23,9 @@ held : (c : Else-not-holds) → holds c.args.set c.args.h.tool ≡ true
 held c = sym c.holds.ensures ∙ c.if-not-holds.false
 
 pub returns-then-room-len : goal.returns-then-room-len
-returns-then-room-len c = gives_none _ _ _ (no_room _ _ _ _ _ _ _ (held (goal.at.returns-then-room-len c).Else-not-holds) c.if-room-len.true) refl c.refused-then-room-len.ensures
+returns-then-room-len c =
+    gives_none _ _ _ (no_room _ _ _ _ _ _ _ (held (goal.at.returns-then-room-len c).Else-not-holds) c.if-room-len.true) refl
+    c.refused-then-room-len.ensures
 
 pub plain_of-body-requires : goal.plain_of-body-requires
 plain_of-body-requires c =
@@ -45,23 +47,27 @@ accepted-requires-in-Same c =
     omega (
       arith,
       same-short c.args.law c.args.set c.args.room c.args.h c.args.octets.now c.requires.0 c.requires.1
-          (held (goal.at.accepted-requires-in-Same c).Else-not-holds) (omega arith) _ (is (goal.at.accepted-requires-in-Same c).After-plain_of-body) c.in-Same.is,
+          (held (goal.at.accepted-requires-in-Same c).Else-not-holds) (omega arith) _
+          (is (goal.at.accepted-requires-in-Same c).After-plain_of-body) c.in-Same.is,
     )
 
 pub returns-in-Short : goal.returns-in-Short
 returns-in-Short c =
     gives-short c.args.law c.args.set c.args.room c.args.h c.args.octets.now c.requires.0 c.requires.1
-    (held (goal.at.returns-in-Short c).Else-not-holds) (omega arith) _ (is (goal.at.returns-in-Short c).After-plain_of-body) c.in-Short.is c.refused-in-Short.ensures
+    (held (goal.at.returns-in-Short c).Else-not-holds) (omega arith) _ (is (goal.at.returns-in-Short c).After-plain_of-body)
+    c.in-Short.is c.refused-in-Short.ensures
 
 pub returns-in-Octets : goal.returns-in-Octets
 returns-in-Octets c =
     gives-octets c.args.law c.args.set c.args.room c.args.h c.args.octets.now c.requires.0 c.requires.1
-    (held (goal.at.returns-in-Octets c).Else-not-holds) (omega arith) _ (is (goal.at.returns-in-Octets c).After-plain_of-body) c.accepted.ensures c.in-Octets.is refl
+    (held (goal.at.returns-in-Octets c).Else-not-holds) (omega arith) _ (is (goal.at.returns-in-Octets c).After-plain_of-body)
+    c.accepted.ensures c.in-Octets.is refl
 
 pub returns-in-Same : goal.returns-in-Same
 returns-in-Same c =
     gives_same c.args.law c.args.set c.args.room c.args.h c.args.octets.now c.requires.0 c.requires.1
-    (held (goal.at.returns-in-Same c).Else-not-holds) (omega arith) _ (is (goal.at.returns-in-Same c).After-plain_of-body) c.accepted-in-Same.ensures c.in-Same.is
+    (held (goal.at.returns-in-Same c).Else-not-holds) (omega arith) _ (is (goal.at.returns-in-Same c).After-plain_of-body)
+    c.accepted-in-Same.ensures c.in-Same.is
 
 pub overflow_mul-len : goal.overflow_mul-len
 overflow_mul-len c =

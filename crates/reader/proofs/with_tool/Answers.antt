@@ -65,7 +65,8 @@ finished-requires c = within (goal.at.finished-requires c).After-body_of c.in-Go
 
 pub returns-in-Refused : goal.returns-in-Refused
 returns-in-Refused c =
-    fills-none (no_body _ _ _ _ _ _ _ (held (goal.at.returns-in-Refused c).Else-not-holds) (omega arith) (body_refused (fills (goal.at.returns-in-Refused c).After-body_of) c.in-Refused.is)) refl
+    fills-none (no_body _ _ _ _ _ _ _ (held (goal.at.returns-in-Refused c).Else-not-holds) (omega arith)
+    (body_refused (fills (goal.at.returns-in-Refused c).After-body_of) c.in-Refused.is)) refl
     (body-length (fills (goal.at.returns-in-Refused c).After-body_of) c.requires.3) c.refused-in-Refused.ensures
 
 pub returns-in-Got : goal.returns-in-Got

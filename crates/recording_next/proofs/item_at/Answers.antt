@@ -29,18 +29,25 @@ module _ (c : After-play_on-r) where
 
 pub overflow_sub-result : goal.overflow_sub-result
 overflow_sub-result c =
-    omega (arith, place-behind c.args.at (item_here c.args.octets.now c.args.law c.args.set c.args.at (length c.args.out.now)) (rw (one (goal.at.overflow_sub-result c).After-play_on-r) at c.play_on-r.ensures))
+    omega (
+      arith,
+      place-behind c.args.at (item_here c.args.octets.now c.args.law c.args.set c.args.at (length c.args.out.now))
+          (rw (one (goal.at.overflow_sub-result c).After-play_on-r) at c.play_on-r.ensures),
+    )
 
 pub tool_at-requires : goal.tool_at-requires
 tool_at-requires c = le_of_lt c.requires.1
 
 pub returns-in-Refused : goal.returns-in-Refused
 returns-in-Refused c =
-    piece-refused (item_here c.args.octets.now c.args.law c.args.set c.args.at (length c.args.out.now)) (rw (one (goal.at.returns-in-Refused c).After-play_on-r) at c.play_on-r.ensures) c.in-Refused.is (c.unread.ensures _)
+    piece-refused (item_here c.args.octets.now c.args.law c.args.set c.args.at (length c.args.out.now))
+    (rw (one (goal.at.returns-in-Refused c).After-play_on-r) at c.play_on-r.ensures) c.in-Refused.is (c.unread.ensures _)
 
 pub returns-in-Done : goal.returns-in-Done
 returns-in-Done c =
     let read = rw (one (goal.at.returns-in-Done c).After-play_on-r) at c.play_on-r.ensures in
     let e = c.in-Done.is in
-    piece-found (item_here c.args.octets.now c.args.law c.args.set c.args.at (length c.args.out.now)) (few (goal.at.returns-in-Done c).After-play_on-r) read e c.kind_of.ensures c.samples_of.ensures
-    (c.tool_at.ensures ∙ tool (goal.at.returns-in-Done c).After-play_on-r (ended-as c.args.at (item_here c.args.octets.now c.args.law c.args.set c.args.at (length c.args.out.now)) read e))
+    piece-found (item_here c.args.octets.now c.args.law c.args.set c.args.at (length c.args.out.now))
+    (few (goal.at.returns-in-Done c).After-play_on-r) read e c.kind_of.ensures c.samples_of.ensures
+    (c.tool_at.ensures ∙ tool (goal.at.returns-in-Done c).After-play_on-r
+    (ended-as c.args.at (item_here c.args.octets.now c.args.law c.args.set c.args.at (length c.args.out.now)) read e))

@@ -16,7 +16,8 @@ module _ (c : After-guard_stream) {e : Ending} (q : c.guard_stream.result ≡ e)
 
 pub returns-then-octets-place : goal.returns-then-octets-place
 returns-then-octets-place c =
-    tells_as (next-short _ _ _ _ _ (said (goal.at.returns-then-octets-place c).After-guard_stream c.in-Done.is) c.if-octets-place.true) (c.unread-then-octets-place.ensures _)
+    tells_as (next-short _ _ _ _ _ (said (goal.at.returns-then-octets-place c).After-guard_stream c.in-Done.is)
+    c.if-octets-place.true) (c.unread-then-octets-place.ensures _)
 
 pub item_at-requires : goal.item_at-requires
 item_at-requires c =

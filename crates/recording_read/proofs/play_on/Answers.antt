@@ -25,7 +25,8 @@ shape_of-cells-then-cells-count c = lent_length c.loop-count.invariant.told
 
 pub returns-then-cells-count : goal.returns-then-cells-count
 returns-then-cells-count c =
-    rw c.so_far.ensures (play-full _ _ _ _ _ _ _ c.loop-count.invariant (omega arith) (here (goal.at.returns-then-cells-count c).Then-place-octets) c.if-cells-count.true)
+    rw c.so_far.ensures (play-full _ _ _ _ _ _ _ c.loop-count.invariant (omega arith)
+    (here (goal.at.returns-then-cells-count c).Then-place-octets) c.if-cells-count.true)
 
 pub overflow_sub-out : goal.overflow_sub-out
 overflow_sub-out c = let w = c.loop-count.invariant in omega (arith, w.kept.room, lent_length w.kept)
@@ -51,7 +52,8 @@ shape_of-cells-in-Refused c = lent_length c.loop-count.invariant.told
 pub returns-in-Refused : goal.returns-in-Refused
 returns-in-Refused c =
     rw c.so_far-in-Refused.ensures
-    (play-refused _ _ _ _ _ _ _ c.loop-count.invariant (omega arith) (here (goal.at.returns-in-Refused c).Then-place-octets) c.if-cells-count.false c.item_at-r.ensures
+    (play-refused _ _ _ _ _ _ _ c.loop-count.invariant (omega arith) (here (goal.at.returns-in-Refused c).Then-place-octets)
+    c.if-cells-count.false c.item_at-r.ensures
     c.in-Refused.why c.in-Refused.is)
 
 pub slice_bounds-put_item-end : goal.slice_bounds-put_item-end
@@ -72,7 +74,11 @@ overflow_add-place c = omega (arith, (fits (goal.at.overflow_add-place c).After-
 
 pub overflow_add-to : goal.overflow_add-to
 overflow_add-to c =
-    omega (arith, (fits (goal.at.overflow_add-to c).After-item_at-r (done (goal.at.overflow_add-to c).After-struct_known-1)).2, lent_length c.loop-count.invariant.kept)
+    omega (
+      arith,
+      (fits (goal.at.overflow_add-to c).After-item_at-r (done (goal.at.overflow_add-to c).After-struct_known-1)).2,
+      lent_length c.loop-count.invariant.kept,
+    )
 
 pub overflow_add-count : goal.overflow_add-count
 overflow_add-count c = omega (arith)
@@ -84,7 +90,8 @@ pub loop-count-preserved : goal.loop-count-preserved
 loop-count-preserved c =
     let p = c.put_item.ensures in
     rw p.1
-    (play-turn _ _ _ _ _ _ _ c.loop-count.invariant (omega arith) (here (goal.at.loop-count-preserved c).Then-place-octets) c.if-cells-count.false c.item_at-r.ensures (done (goal.at.loop-count-preserved c).After-struct_known-1)
+    (play-turn _ _ _ _ _ _ _ c.loop-count.invariant (omega arith) (here (goal.at.loop-count-preserved c).Then-place-octets)
+    c.if-cells-count.false c.item_at-r.ensures (done (goal.at.loop-count-preserved c).After-struct_known-1)
     p.0)
 
 pub shape_of-out : goal.shape_of-out

@@ -17,7 +17,9 @@ returns-then-not-are_given c =
 
 pub write_given-requires : goal.write_given-requires
 write_given-requires c =
-    let a = c.args in let met = all-met (writer_asks a.law a.set) (sym c.guard_writer.ensures ∙ c.in-Done.is) in record { law_value = (met.0, met.1.0); samples_value = sym c.are_given.ensures ∙ c.if-not-are_given.false }
+    let a = c.args in
+    let met = all-met (writer_asks a.law a.set) (sym c.guard_writer.ensures ∙ c.in-Done.is) in
+    record { law_value = (met.0, met.1.0); samples_value = sym c.are_given.ensures ∙ c.if-not-are_given.false }
 
 pub returns-in-Refused : goal.returns-in-Refused
 returns-in-Refused c =

@@ -11,7 +11,8 @@ plus_plus-quiet-requires c = rw c.mask_of.ensures (mask-seven _ (is-mask c.args.
 
 pub octets_to_judge-after-requires : goal.octets_to_judge-after-requires
 octets_to_judge-after-requires c =
-    let quiet = ap (λ x. replicate 320 x) (c.plus_plus-quiet.ensures ∙ ap plus_plus c.mask_of.ensures) in record { samples_value = c.requires.samples_value; lawful = (c.requires.law_value, quiet) }
+    let quiet = ap (λ x. replicate 320 x) (c.plus_plus-quiet.ensures ∙ ap plus_plus c.mask_of.ensures) in
+    record { samples_value = c.requires.samples_value; lawful = (c.requires.law_value, quiet) }
 
 pub returns-then-after-gt-LONGEST : goal.returns-then-after-gt-LONGEST
 returns-then-after-gt-LONGEST c =
@@ -33,7 +34,12 @@ returns-then-out-after c =
 pub put_items-octets-requires : goal.put_items-octets-requires
 put_items-octets-requires c =
     let m = c.octets_to_judge-after.ensures in let p = rw c.heading_of-heading.ensures at c.put_word-at.ensures in let quiet = ap (λ x. replicate 320 x)
-    (c.plus_plus-quiet.ensures ∙ ap plus_plus c.mask_of.ensures) in record { samples_value = c.requires.samples_value; lawful = (c.requires.law_value, quiet); samples_in_bounds = omega (arith, m.room_for (omega arith) (omega arith), p.place, p.size) }
+    (c.plus_plus-quiet.ensures ∙ ap plus_plus c.mask_of.ensures) in record {
+      samples_value = c.requires.samples_value;
+      lawful = (c.requires.law_value, quiet);
+      samples_in_bounds = omega
+          (arith, m.room_for (omega arith) (omega arith), p.place, p.size);
+    }
 
 pub returns : goal.returns
 returns c =

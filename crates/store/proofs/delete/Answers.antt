@@ -46,7 +46,14 @@ remove-requires c =
 
 pub drop_note-requires : goal.drop_note-requires
 drop_note-requires c =
-    let k = looked (goal.at.drop_note-requires c).In-Found in let few = rows-less c.args.table.now c.in-Found.i k.noted.order.few in let gone = c.remove.ensures in let small : c.size_of-size.result ≤ largest_block = omega (arith, c.size_of-size.ensures) in record { n_value = (k.count ∙ sym k.noted.count ∙ sym (count_kept _ _ few gone), omega (arith, k.count, k.noted.order.few), omega arith); table_in_bounds = rw (heads-kept _ _ few gone) (omega (arith, room_for k.noted small, c.remove.auto.table)) }
+    let k = looked (goal.at.drop_note-requires c).In-Found in
+    let few = rows-less c.args.table.now c.in-Found.i k.noted.order.few in
+    let gone = c.remove.ensures in
+    let small : c.size_of-size.result ≤ largest_block = omega (arith, c.size_of-size.ensures) in
+    record {
+      n_value = (k.count ∙ sym k.noted.count ∙ sym (count_kept _ _ few gone), omega (arith, k.count, k.noted.order.few), omega arith);
+      table_in_bounds = rw (heads-kept _ _ few gone) (omega (arith, room_for k.noted small, c.remove.auto.table));
+    }
 
 pub returns-in-Stop : goal.returns-in-Stop
 returns-in-Stop c =

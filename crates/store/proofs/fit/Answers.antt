@@ -22,7 +22,12 @@ module _ (c : In-At) where
 
 pub place-requires : goal.place-requires
 place-requires c =
-    let p = c.requires in let g = told (goal.at.place-requires c).In-At in record { n_value = (p.n_value.0, p.n_value.1, g.0, p.noted.0.order.cells, p.n_value.2); octets_in_bounds = (omega (arith, g.1, p.n_value.3), omega (arith, g.1, p.n_value.4)) }
+    let p = c.requires in
+    let g = told (goal.at.place-requires c).In-At in
+    record {
+      n_value = (p.n_value.0, p.n_value.1, g.0, p.noted.0.order.cells, p.n_value.2);
+      octets_in_bounds = (omega (arith, g.1, p.n_value.3), omega (arith, g.1, p.n_value.4));
+    }
 
 pub put_taken-requires : goal.put_taken-requires
 put_taken-requires c =
@@ -37,7 +42,15 @@ put_taken-requires c =
 
 pub place-requires-in-Nowhere : goal.place-requires-in-Nowhere
 place-requires-in-Nowhere c =
-    let up = c.close_up-moved in let a = c.args in let p = c.requires in let q = p.noted in let n = closed-count a.block.now a.table.now a.sought.number a.octets.now up.ensures p.n_value.0 in record { n_value = (n, p.n_value.1, omega arith, omega (arith, q.0.order.cells, up.auto.table), p.n_value.2); octets_in_bounds = (omega (arith, q.2, p.n_value.3, up.auto.block), omega (arith, q.2, p.n_value.4)) }
+    let up = c.close_up-moved in
+    let a = c.args in
+    let p = c.requires in
+    let q = p.noted in
+    let n = closed-count a.block.now a.table.now a.sought.number a.octets.now up.ensures p.n_value.0 in
+    record {
+      n_value = (n, p.n_value.1, omega arith, omega (arith, q.0.order.cells, up.auto.table), p.n_value.2);
+      octets_in_bounds = (omega (arith, q.2, p.n_value.3, up.auto.block), omega (arith, q.2, p.n_value.4));
+    }
 
 pub put_taken-requires-in-Nowhere : goal.put_taken-requires-in-Nowhere
 put_taken-requires-in-Nowhere c =

@@ -31,7 +31,10 @@ judge-requires c = sane-noted _ _ (sym c.sane.ensures ∙ passed (goal.at.judge-
 
 pub put_among-requires : goal.put_among-requires
 put_among-requires c =
-    let size = c.size_of-size.ensures in let k = look-told _ _ _ (sym c.sane.ensures ∙ passed (goal.at.put_among-requires c).Else-not-sane) (sym c.in-Found.is ∙ c.judge.ensures) in record { looked = k; size_in_bounds = (omega (arith, size), omega (arith, size), omega arith, at_most _ _ _ k) }
+    let size = c.size_of-size.ensures in
+    let k = look-told _ _ _ (sym c.sane.ensures ∙ passed (goal.at.put_among-requires c).Else-not-sane)
+    (sym c.in-Found.is ∙ c.judge.ensures) in
+    record { looked = k; size_in_bounds = (omega (arith, size), omega (arith, size), omega arith, at_most _ _ _ k) }
 
 pub returns-in-Stop : goal.returns-in-Stop
 returns-in-Stop c =

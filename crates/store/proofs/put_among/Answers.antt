@@ -20,7 +20,13 @@ returns-then-sought-octets c =
 
 pub put_sound-requires : goal.put_sound-requires
 put_sound-requires c =
-    let p = c.requires in let k = taken c.take.ensures c.in-Counted.is (omega arith) (omega arith) c.take.auto.marks in record { looked = (p.looked, omega arith); size_in_bounds = (p.size_in_bounds.0, p.size_in_bounds.1, p.size_in_bounds.3, omega arith); taken = k }
+    let p = c.requires in
+    let k = taken c.take.ensures c.in-Counted.is (omega arith) (omega arith) c.take.auto.marks in
+    record {
+      looked = (p.looked, omega arith);
+      size_in_bounds = (p.size_in_bounds.0, p.size_in_bounds.1, p.size_in_bounds.3, omega arith);
+      taken = k;
+    }
 
 pub returns-in-Wrong : goal.returns-in-Wrong
 returns-in-Wrong c =

@@ -20,7 +20,15 @@ returns-then-sought-behind c =
 
 pub fit-requires : goal.fit-requires
 fit-requires c =
-    let held = c.held-behind.ensures in let p = c.requires in let k = p.looked.0 in let q = p.size_in_bounds in record { n_value = (k.count, omega arith, omega (arith, q.2), q.0, q.1); noted = (k.noted, held.0, omega (arith, held.1, c.if-sought-behind.false)); taken = p.taken }
+    let held = c.held-behind.ensures in
+    let p = c.requires in
+    let k = p.looked.0 in
+    let q = p.size_in_bounds in
+    record {
+      n_value = (k.count, omega arith, omega (arith, q.2), q.0, q.1);
+      noted = (k.noted, held.0, omega (arith, held.1, c.if-sought-behind.false));
+      taken = p.taken;
+    }
 
 pub returns : goal.returns
 returns c =

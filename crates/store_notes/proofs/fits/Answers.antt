@@ -38,7 +38,8 @@ returns-then-r-h c =
 
 pub loop-i-preserved : goal.loop-i-preserved
 loop-i-preserved c = (
-  c.loop-i.invariant.0 ∙ matched-turn (c.args.table.now) (drop 97 (c.args.table.now)) (c.args.n) c.loop-i.i c.row_at-r.ensures.0 (ap in_row c.head_at-h.ensures.0)
+  c.loop-i.invariant.0 ∙ matched-turn (c.args.table.now) (drop 97 (c.args.table.now)) (c.args.n) c.loop-i.i c.row_at-r.ensures.0
+      (ap in_row c.head_at-h.ensures.0)
       (omega arith) (omega arith) (omega arith),
   omega arith,
 )

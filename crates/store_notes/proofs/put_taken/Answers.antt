@@ -17,7 +17,15 @@ use Rattle.store_notes.proofs.put_taken.Goals as goal
 
 pub insert-requires : goal.insert-requires
 insert-requires c =
-    let t = c.args.table.now in let e = from_on t 97 in let first : get_or (take (length t - 97) (drop 97 t)) 0 0 ≡ get_or t 97 0 = ap (λ (x : List ℕ). get_or x 0 0) e ∙ get_or-drop 97 t 0 0 in let h = c.requires.1.heard in record { n_value = (omega (arith, first), omega arith, omega arith, rw e (omega (arith, length-drop 97 t))); number_bound = (omega (arith, c.wide.ensures), omega (arith, heard-small h), omega (arith, heard-few h, h.short)) }
+    let t = c.args.table.now in
+    let e = from_on t 97 in
+    let first : get_or (take (length t - 97) (drop 97 t)) 0 0 ≡ get_or t 97 0 = ap (λ (x : List ℕ). get_or x 0 0) e ∙ get_or-drop 97
+    t 0 0 in
+    let h = c.requires.1.heard in
+    record {
+      n_value = (omega (arith, first), omega arith, omega arith, rw e (omega (arith, length-drop 97 t)));
+      number_bound = (omega (arith, c.wide.ensures), omega (arith, heard-small h), omega (arith, heard-few h, h.short));
+    }
 
 pub open_taken-requires : goal.open_taken-requires
 open_taken-requires c =

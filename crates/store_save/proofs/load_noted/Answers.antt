@@ -21,10 +21,12 @@ module _ (c : In-Greetings) where
   abbrev found' : Read (List Listed)
   found' = listed_at c.args.form.most c.args.form.from c.args.text.now
 
-  celled : (is_whole (listed_at c.args.form.most c.args.form.from c.args.text.now) ≡ true) × Celled (greetings_of (listed_at c.args.form.most c.args.form.from c.args.text.now)) c.read_noted.new.cells
+  celled : (is_whole (listed_at c.args.form.most c.args.form.from c.args.text.now) ≡ true) × Celled
+      (greetings_of (listed_at c.args.form.most c.args.form.from c.args.text.now)) c.read_noted.new.cells
       c.read_noted.new.laws c.in-Greetings.n
   celled =
-      celled-noted (listed_at c.args.form.most c.args.form.from c.args.text.now) (fills-as {found = (listed_at c.args.form.most c.args.form.from c.args.text.now)} c.in-Greetings.is c.read_noted.ensures)
+      celled-noted (listed_at c.args.form.most c.args.form.from c.args.text.now)
+      (fills-as {found = (listed_at c.args.form.most c.args.form.from c.args.text.now)} c.in-Greetings.is c.read_noted.ensures)
       (omega (arith, c.read_noted.auto.cells)) (omega (arith, c.read_noted.auto.laws))
 
 pub judge_noted-verdict-requires : goal.judge_noted-verdict-requires

@@ -28,4 +28,6 @@ overflow_add-result-2 c =
 pub returns : goal.returns
 returns c =
     let a = c.args in let e = c.digits-a.ensures
-    ∙ ap (λ (n : ℕ). length (decimal n)) c.wide.ensures in let r = c.type_inv.cells a.k in let f = decimal-few 9 (get_or a.cells.now a.k 0) (omega (arith, r)) in let o = c.line_octets-b.ensures in record { value = omega (arith, e, o.value, mark-length (mark_at a.cells.now a.k)); most = omega (arith, e, f, o.most) }
+    ∙ ap (λ (n : ℕ). length (decimal n)) c.wide.ensures in let r = c.type_inv.cells a.k in let f = decimal-few 9
+    (get_or a.cells.now a.k 0) (omega (arith, r)) in let o = c.line_octets-b.ensures in record
+    { value = omega (arith, e, o.value, mark-length (mark_at a.cells.now a.k)); most = omega (arith, e, f, o.most) }

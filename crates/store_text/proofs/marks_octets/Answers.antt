@@ -19,4 +19,6 @@ loop-j-preserved c =
 
 pub returns : goal.returns
 returns c =
-    let a = c.args in let e = counting-end c.loop-j.invariant.1 (marks-over a.cells.now a.m c.loop-j.j (omega arith)) in record { value = e; most = omega (arith, c.loop-j.invariant.1.few) }
+    let a = c.args in
+    let e = counting-end c.loop-j.invariant.1 (marks-over a.cells.now a.m c.loop-j.j (omega arith)) in
+    record { value = e; most = omega (arith, c.loop-j.invariant.1.few) }

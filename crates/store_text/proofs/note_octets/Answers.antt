@@ -27,7 +27,13 @@ overflow_add-result-2 c =
 
 pub returns : goal.returns
 returns c =
-    let a = c.args in let r = c.type_inv.cells (a.k + 2) in let o = c.marks_octets-c.ensures in let e = ap (λ (m : ℕ). length (marks_text (marks_in m a.cells.now))) c.wide.ensures in let s = c.line_octets-b.ensures in let l = c.line_octets-a.ensures in record {
+    let a = c.args in
+    let r = c.type_inv.cells (a.k + 2) in
+    let o = c.marks_octets-c.ensures in
+    let e = ap (λ (m : ℕ). length (marks_text (marks_in m a.cells.now))) c.wide.ensures in
+    let s = c.line_octets-b.ensures in
+    let l = c.line_octets-a.ensures in
+    record {
       value = omega (arith, note-length (note_at a.heads.now a.k a.cells.now), o.value, e, s.value, l.value);
       most = omega
           (arith, o.most, c.wide.ensures, r, s.most, l.most);

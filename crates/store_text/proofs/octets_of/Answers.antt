@@ -51,4 +51,7 @@ loop-i-preserved c =
 
 pub returns : goal.returns
 returns c =
-    let a = c.args in let s = c.loop-i.invariant in let all = text-over a.table.now a.heads.now a.marks.now a.n c.loop-i.from c.loop-i.i (omega arith) in record { value = counting-end s.2 all; most = omega (arith, s.2.few) }
+    let a = c.args in
+    let s = c.loop-i.invariant in
+    let all = text-over a.table.now a.heads.now a.marks.now a.n c.loop-i.from c.loop-i.i (omega arith) in
+    record { value = counting-end s.2 all; most = omega (arith, s.2.few) }

@@ -24,4 +24,6 @@ put_word-requires c =
 pub returns : goal.returns
 unfolding line_of
 returns c =
-    let p = puts_then (puts_then c.put_word-value.ensures c.put_number-end.ensures) c.put_word.ensures in let a = c.args in record { puts = p; most = omega (arith, p.place, line-few a.key.now a.n (omega arith)) }
+    let p = puts_then (puts_then c.put_word-value.ensures c.put_number-end.ensures) c.put_word.ensures in
+    let a = c.args in
+    record { puts = p; most = omega (arith, p.place, line-few a.key.now a.n (omega arith)) }

@@ -11,4 +11,7 @@ put_number-requires c =
 
 pub returns : goal.returns
 returns c =
-    let w = c.put_word-next.ensures in let d = c.put_number.ensures in let most = decimal-most c.args.n in record { puts = puts_then w d; most = omega (arith, w.place, d.place, most) }
+    let w = c.put_word-next.ensures in
+    let d = c.put_number.ensures in
+    let most = decimal-most c.args.n in
+    record { puts = puts_then w d; most = omega (arith, w.place, d.place, most) }

@@ -7,4 +7,7 @@ use Rattle.text_lines.proofs.stop_line.Goals as goal
 pub returns : goal.returns
 unfolding stop_line
 returns c =
-    let stop = c.put_stop-t.ensures in let bit = c.put_field-end.ensures in let end = c.put_word.ensures in record { puts = puts_then stop.puts (puts_then bit.puts end); most = omega arith }
+    let stop = c.put_stop-t.ensures in
+    let bit = c.put_field-end.ensures in
+    let end = c.put_word.ensures in
+    record { puts = puts_then stop.puts (puts_then bit.puts end); most = omega arith }

@@ -24,8 +24,41 @@ slice_bounds-part_frames-end-2 c = sym (read_length (goal.at.slice_bounds-part_f
 
 pub part_frames-requires : goal.part_frames-requires
 part_frames-requires c =
-    let a = c.requires in record { part_len_bound = (omega (arith, read_length (goal.at.part_frames-requires c).After-read_part-got, part_length (goal.at.part_frames-requires c).After-read_part-got, c.read_part-got.ensures), a.part_len.1, a.part_len.2); parts_in = a.parts_in }
+    let a = c.requires in
+    record {
+      part_len_bound = (
+        omega (
+          arith,
+          read_length (goal.at.part_frames-requires c).After-read_part-got,
+          part_length
+              (goal.at.part_frames-requires c).After-read_part-got,
+          c.read_part-got.ensures,
+        ),
+        a.part_len.1,
+        a.part_len.2,
+      );
+      parts_in = a.parts_in;
+    }
 
 pub returns : goal.returns
 returns c =
-    let e = c.part_frames.ensures in record { frames = omega (arith, e.frames, read_length (goal.at.returns c).After-read_part-got, part_length (goal.at.returns c).After-read_part-got, c.read_part-got.ensures); samples = omega (arith, e.samples, read_length (goal.at.returns c).After-read_part-got, part_length (goal.at.returns c).After-read_part-got, c.read_part-got.ensures); whole = e.whole }
+    let e = c.part_frames.ensures in
+    record {
+      frames = omega (
+        arith,
+        e.frames,
+        read_length (goal.at.returns c).After-read_part-got,
+        part_length
+            (goal.at.returns c).After-read_part-got,
+        c.read_part-got.ensures,
+      );
+      samples = omega (
+        arith,
+        e.samples,
+        read_length (goal.at.returns c).After-read_part-got,
+        part_length
+            (goal.at.returns c).After-read_part-got,
+        c.read_part-got.ensures,
+      );
+      whole = e.whole;
+    }

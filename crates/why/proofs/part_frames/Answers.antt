@@ -27,7 +27,12 @@ pub returns-then-len-eq0 : goal.returns-then-len-eq0
 returns-then-len-eq0 c =
     let i = c.loop-rt.invariant in let whole = parts-on c.args.job.length c.args.run.frames c.args.run.samples c.args.part.now
     c.loop-rt.from c.loop-rt.k c.requires.parts_in i.2 i.3 c.next_length-len.result c.next_length-len.ensures
-    (omega arith) c.last_end-end.result in record { frames = omega (arith, i.0, i.1); samples = omega (arith, i.0); whole = λ g. whole (sym c.may_go_on.ensures ∙ g) }
+    (omega arith) c.last_end-end.result in record {
+      frames = omega (arith, i.0, i.1);
+      samples = omega (arith, i.0);
+      whole = λ g.
+          whole (sym c.may_go_on.ensures ∙ g);
+    }
 
 pub overflow_add-to : goal.overflow_add-to
 overflow_add-to c =
@@ -43,7 +48,8 @@ pub show_wanted-requires : goal.show_wanted-requires
 show_wanted-requires c =
     let len = c.next_length-len.result in
     frame-in c.args.job.length c.args.run.frames c.args.run.samples c.args.part.now c.loop-rt.from c.loop-rt.k
-    c.requires.parts_in c.loop-rt.invariant.2 c.loop-rt.invariant.3 len (c.loop-rt.from + len) c.next_length-len.ensures (some (goal.at.show_wanted-requires c).Else-len-eq0) refl
+    c.requires.parts_in c.loop-rt.invariant.2 c.loop-rt.invariant.3 len (c.loop-rt.from + len) c.next_length-len.ensures
+    (some (goal.at.show_wanted-requires c).Else-len-eq0) refl
 
 pub returns-in-Err : goal.returns-in-Err
 returns-in-Err c =
@@ -59,5 +65,10 @@ loop-rt-preserved c =
     let len = c.next_length-len.result in
     let on = cut_on c.args.job.length c.args.run.frames c.args.run.samples c.args.part.now
     c.loop-rt.from c.loop-rt.k c.requires.parts_in i.2 i.3 len (c.loop-rt.from + len)
-    c.next_length-len.ensures (some (goal.at.loop-rt-preserved c).Else-len-eq0) refl in
-    (omega (arith, (fits (goal.at.loop-rt-preserved c).Else-len-eq0).within, i.0), omega (arith, (fits (goal.at.loop-rt-preserved c).Else-len-eq0).some, i.1), omega (arith, i.2), on)
+    c.next_length-len.ensures (some (goal.at.loop-rt-preserved c).Else-len-eq0) refl in (
+      omega (arith, (fits (goal.at.loop-rt-preserved c).Else-len-eq0).within, i.0),
+      omega
+          (arith, (fits (goal.at.loop-rt-preserved c).Else-len-eq0).some, i.1),
+      omega (arith, i.2),
+      on,
+    )

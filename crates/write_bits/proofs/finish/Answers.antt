@@ -12,7 +12,13 @@ put-q-requires c =
 
 pub flush-requires : goal.flush-requires
 flush-requires c =
-    let e = c.put-q.ensures in let a = c.requires in let n = length-low_bits ((8 - c.args.p.held % 8) % 8) 0 in record { able = record { held = e.held; word = e.word; room = omega (arith, e.place, n, a.room, c.put-q.auto.out) }; held_value = omega (arith, e.place, n) }
+    let e = c.put-q.ensures in
+    let a = c.requires in
+    let n = length-low_bits ((8 - c.args.p.held % 8) % 8) 0 in
+    record {
+      able = record { held = e.held; word = e.word; room = omega (arith, e.place, n, a.room, c.put-q.auto.out) };
+      held_value = omega (arith, e.place, n);
+    }
 
 pub returns : goal.returns
 returns c = finished _ c.requires refl

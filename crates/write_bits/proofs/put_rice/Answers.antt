@@ -15,7 +15,10 @@ overflow_add-last c = record { fits = rice-word _ _ (one_shifted _ c.requires.s_
 
 pub put-requires : goal.put-requires
 put-requires c =
-    record { able = able-as c.requires.able (omega (arith, length-rice_form c.args.s c.args.v)); n_bound = (omega arith, rice-fits _ _ _ (one_shifted _ c.requires.s_bound)) }
+    record {
+      able = able-as c.requires.able (omega (arith, length-rice_form c.args.s c.args.v));
+      n_bound = (omega arith, rice-fits _ _ _ (one_shifted _ c.requires.s_bound));
+    }
 
 pub returns-then-zeros-le16 : goal.returns-then-zeros-le16
 returns-then-zeros-le16 c =
@@ -27,7 +30,12 @@ put_zeros-q-requires c =
 
 pub put-requires-2 : goal.put-requires-2
 put-requires-2 c =
-    let z = c.put_zeros-q in let k = length-replicate {A = ℕ} (c.args.v / 2 ^ c.args.s) 0 in record { able = able-then _ c.requires.able z.ensures z.auto.out (omega (arith, length-rice_form c.args.s c.args.v)); n_bound = (omega arith, rice-fits 0 _ _ (one_shifted _ c.requires.s_bound)) }
+    let z = c.put_zeros-q in
+    let k = length-replicate {A = ℕ} (c.args.v / 2 ^ c.args.s) 0 in
+    record {
+      able = able-then _ c.requires.able z.ensures z.auto.out (omega (arith, length-rice_form c.args.s c.args.v));
+      n_bound = (omega arith, rice-fits 0 _ _ (one_shifted _ c.requires.s_bound));
+    }
 
 pub returns : goal.returns
 returns c =

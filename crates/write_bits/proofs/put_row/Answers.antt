@@ -12,11 +12,18 @@ loop-i-init c = row-none c.args.row.now c.requires.able
 
 pub put-high-requires : goal.put-high-requires
 put-high-requires c =
-    let l = c.loop-i in record { able = row-able l.invariant (omega arith) (omega (arith, c.requires.k_bound.0, c.requires.k_bound.1)) c.requires.able 8 (omega arith); n_bound = (omega arith, omega (arith, c.requires.by_index l.i)) }
+    let l = c.loop-i in
+    record {
+      able = row-able l.invariant (omega arith) (omega (arith, c.requires.k_bound.0, c.requires.k_bound.1)) c.requires.able 8 (omega arith);
+      n_bound = (omega arith, omega (arith, c.requires.by_index l.i));
+    }
 
 pub put-q-requires : goal.put-q-requires
 put-q-requires c =
-    let l = c.loop-i in let able = row-able l.invariant (omega arith) (omega (arith, c.requires.k_bound.0, c.requires.k_bound.1)) c.requires.able 40 (omega arith) in record {
+    let l = c.loop-i in
+    let able = row-able l.invariant (omega arith) (omega (arith, c.requires.k_bound.0, c.requires.k_bound.1)) c.requires.able 40
+    (omega arith) in
+    record {
       able = able-then 32 able c.put-high.ensures c.put-high.auto.out
           (omega (arith, length-low_bits 8 (get_or c.args.row.now l.i 0 / 4294967296)));
       n_bound = (omega arith, omega arith);

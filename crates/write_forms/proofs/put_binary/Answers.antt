@@ -25,12 +25,20 @@ module _ (c : After-fresh-p) where
 
 pub put_prefix-q-requires : goal.put_prefix-q-requires
 put_prefix-q-requires c =
-    record { le_tool = (omega arith, omega arith); able = fresh-able (new (goal.at.put_prefix-q-requires c).After-fresh-p) (omega (arith, c.requires.row_len_bound, size (goal.at.put_prefix-q-requires c).Start)) }
+    record {
+      le_tool = (omega arith, omega arith);
+      able = fresh-able (new (goal.at.put_prefix-q-requires c).After-fresh-p)
+          (omega (arith, c.requires.row_len_bound, size (goal.at.put_prefix-q-requires c).Start));
+    }
 
 pub put_row-r-requires : goal.put_row-r-requires
 put_row-r-requires c =
-    let d = length-row_bits (take (c.args.n / 40) c.args.row.now) in let e = length-take-le (c.args.n / 40) c.args.row.now (omega (arith, c.requires.row_ready.size, c.requires.row_ready.few)) in let able = able-then (40 * (c.args.n / 40)) (fresh-able (new (goal.at.put_row-r-requires c).After-fresh-p) c.requires.row_len_bound) c.put_prefix-q.ensures c.put_prefix-q.auto.out
-    (omega (arith, length-low_bits 8 (octet_for 5 c.args.n), size (goal.at.put_row-r-requires c).Start, d, e)) in record { k_bound = (omega (arith, c.requires.row_ready.few), c.requires.row_ready.size); by_index = c.requires.row_ready.small; able = able }
+    let d = length-row_bits (take (c.args.n / 40) c.args.row.now) in
+    let e = length-take-le (c.args.n / 40) c.args.row.now (omega (arith, c.requires.row_ready.size, c.requires.row_ready.few)) in
+    let able = able-then (40 * (c.args.n / 40)) (fresh-able (new (goal.at.put_row-r-requires c).After-fresh-p)
+    c.requires.row_len_bound) c.put_prefix-q.ensures c.put_prefix-q.auto.out
+    (omega (arith, length-low_bits 8 (octet_for 5 c.args.n), size (goal.at.put_row-r-requires c).Start, d, e)) in record
+    { k_bound = (omega (arith, c.requires.row_ready.few), c.requires.row_ready.size); by_index = c.requires.row_ready.small; able = able }
 
 module _ (c : After-put_row-r) where
   laid : Puts c.args.out.now c.fresh-p.result (binary_form c.args.n c.args.row.now)

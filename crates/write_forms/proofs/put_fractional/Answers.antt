@@ -47,7 +47,10 @@ module _ (c : After-wide) where
 
 pub put-q-requires : goal.put-q-requires
 put-q-requires c =
-    record { able = fresh-able (new c) (omega (arith, c.requires.samples_len_bound, sizes (goal.at.put-q-requires c).Start)); n_bound = (omega arith, omega (arith, c.wide.ensures.0, c.first_code.ensures, first_small c.args.n, c.requires.frame_in.2)) }
+    record {
+      able = fresh-able (new c) (omega (arith, c.requires.samples_len_bound, sizes (goal.at.put-q-requires c).Start));
+      n_bound = (omega arith, omega (arith, c.wide.ensures.0, c.first_code.ensures, first_small c.args.n, c.requires.frame_in.2));
+    }
 
 pub row_at-row-requires : goal.row_at-row-requires
 row_at-row-requires c = c.requires.frame_in.2
@@ -78,8 +81,15 @@ put_body-r-requires c =
     let put = c.put-q in record {
       frame_in = c.requires.frame_in.0;
       digits_fit = fit (goal.at.put_body-r-requires c).After-row_at-row;
-      able = able-then (length (body_in c.args.mask (c.row_at-row.result) c.args.n (take c.args.n c.args.samples.now))) (fresh-able (new (goal.at.put_body-r-requires c).After-wide) c.requires.samples_len_bound) put.ensures put.auto.out
-          (omega (arith, sizes (goal.at.put_body-r-requires c).Start, ap length (body_is (goal.at.put_body-r-requires c).After-row_at-row), length-low_bits 8 (c.wide.result + c.args.k)));
+      able = able-then (length (body_in c.args.mask (c.row_at-row.result) c.args.n (take c.args.n c.args.samples.now)))
+          (fresh-able (new (goal.at.put_body-r-requires c).After-wide) c.requires.samples_len_bound) put.ensures put.auto.out
+          (omega (
+            arith,
+            sizes (goal.at.put_body-r-requires c).Start,
+            ap length
+                (body_is (goal.at.put_body-r-requires c).After-row_at-row),
+            length-low_bits 8 (c.wide.result + c.args.k),
+          ));
     }
 
 module _ (c : After-put_body-r) where
@@ -99,7 +109,8 @@ module _ (c : After-put_body-r) where
       (cells-length c.requires.frame_in.0)
 
   laid : Puts c.args.out.now c.fresh-p.result
-      (low_bits 8 (first_code c.args.n + c.args.k) ++ (fractional_body c.args.mask c.args.k (take c.args.n c.args.samples.now))) c.put_body-r.new.out c.put_body-r.result
+      (low_bits 8 (first_code c.args.n + c.args.k) ++ (fractional_body c.args.mask c.args.k (take c.args.n c.args.samples.now)))
+      c.put_body-r.new.out c.put_body-r.result
   laid = puts-as (puts_then {b = (body_in c.args.mask (c.row_at-row.result) c.args.n (take c.args.n c.args.samples.now))} c.put-q.ensures c.put_body-r.ensures)
       (ap₂ ◌++◌ (ap (low_bits 8) code_is') body_is')
 

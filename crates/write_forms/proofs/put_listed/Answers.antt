@@ -17,7 +17,10 @@ overflow_add-place c =
 
 pub put-q-requires : goal.put-q-requires
 put-q-requires c =
-    let l = c.loop-j in let h = c.loop-j-test.true in let long : c.args.count ≤ length c.args.runs.now = omega (arith, c.requires.w_bound.1.0, c.requires.w_bound.1.1) in let able = listed-able c.args.w c.args.count c.args.runs.now l.invariant h long c.long.ensures.0
+    let l = c.loop-j in
+    let h = c.loop-j-test.true in
+    let long : c.args.count ≤ length c.args.runs.now = omega (arith, c.requires.w_bound.1.0, c.requires.w_bound.1.1) in
+    let able = listed-able c.args.w c.args.count c.args.runs.now l.invariant h long c.long.ensures.0
     c.requires.able in record {
       able = able;
       n_bound = (

@@ -23,7 +23,10 @@ module _ (c : Start) where
 
 pub put_prefix-q-requires : goal.put_prefix-q-requires
 put_prefix-q-requires c =
-    record { le_tool = (omega arith, omega arith); able = fresh-able (fresh-is c.fresh-p.ensures) (omega (arith, c.requires.c_len_bound, sizes (goal.at.put_prefix-q-requires c).Start)) }
+    record {
+      le_tool = (omega arith, omega arith);
+      able = fresh-able (fresh-is c.fresh-p.ensures) (omega (arith, c.requires.c_len_bound, sizes (goal.at.put_prefix-q-requires c).Start));
+    }
 
 module _ (c : After-put_located_body-arg-1) where
   new : Fresh c.fresh-p.result
@@ -33,7 +36,8 @@ pub put_located_body-r-requires : goal.put_located_body-r-requires
 put_located_body-r-requires c =
     let put = c.put_prefix-q in record {
       located_ready = c.requires.located_ready;
-      able = able-then (length (located_form_of c.args.plan c.args.a.now c.args.b.now c.args.c.now)) (fresh-able (new c) c.requires.c_len_bound) put.ensures put.auto.out
+      able = able-then (length (located_form_of c.args.plan c.args.a.now c.args.b.now c.args.c.now))
+          (fresh-able (new c) c.requires.c_len_bound) put.ensures put.auto.out
           (omega (arith, length-low_bits 8 (octet_for 7 c.args.n), sizes (goal.at.put_located_body-r-requires c).Start));
     }
 

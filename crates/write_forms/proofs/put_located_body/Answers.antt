@@ -28,11 +28,19 @@ module _ (c : Start) where
 
 pub put-q-requires : goal.put-q-requires
 put-q-requires c =
-    record { able = able-as c.requires.able (omega (arith, size (goal.at.put-q-requires c).Start)); n_bound = (omega arith, omega (arith, c.requires.located_ready.row, c.requires.located_ready.flag)) }
+    record {
+      able = able-as c.requires.able (omega (arith, size (goal.at.put-q-requires c).Start));
+      n_bound = (omega arith, omega (arith, c.requires.located_ready.row, c.requires.located_ready.flag));
+    }
 
 pub put_values-requires : goal.put_values-requires
 put_values-requires c =
-    let put = c.put-q in record { values_ready = c.requires.located_ready.values; able = able-then (length (values_form_of c.args.plan c.args.a.now c.args.b.now c.args.c.now)) c.requires.able put.ensures put.auto.out (omega (arith, size (goal.at.put_values-requires c).Start, length-low_bits 3 (c.args.plan.row * 2 + c.args.plan.flag))) }
+    let put = c.put-q in
+    record {
+      values_ready = c.requires.located_ready.values;
+      able = able-then (length (values_form_of c.args.plan c.args.a.now c.args.b.now c.args.c.now)) c.requires.able put.ensures
+          put.auto.out (omega (arith, size (goal.at.put_values-requires c).Start, length-low_bits 3 (c.args.plan.row * 2 + c.args.plan.flag)));
+    }
 
 pub returns : goal.returns
 returns c =

@@ -7,7 +7,11 @@ use Rattle.write_forms.proofs.put_marks.Goals as goal
 
 pub put_runs-q-requires : goal.put_runs-q-requires
 put_runs-q-requires c =
-    let k = marks-length c.args.count c.args.found c.args.runs.now c.requires.count_le_found.0 in record { s_bound = (omega arith, (omega (arith, c.requires.count_le_found), omega (arith, c.requires.count_le_found))); able = able-as c.requires.able (omega arith) }
+    let k = marks-length c.args.count c.args.found c.args.runs.now c.requires.count_le_found.0 in
+    record {
+      s_bound = (omega arith, (omega (arith, c.requires.count_le_found), omega (arith, c.requires.count_le_found)));
+      able = able-as c.requires.able (omega arith);
+    }
 
 pub put_zeros-requires : goal.put_zeros-requires
 put_zeros-requires c =

@@ -26,7 +26,11 @@ module _ (c : Start) where
   sizes = length_three first code runs
 
 pub put_start-q-requires : goal.put_start-q-requires
-put_start-q-requires c = record { mark_bound = c.requires.rice_ready.mark; able = able-as c.requires.able (omega (arith, sizes (goal.at.put_start-q-requires c).Start)) }
+put_start-q-requires c =
+    record {
+      mark_bound = c.requires.rice_ready.mark;
+      able = able-as c.requires.able (omega (arith, sizes (goal.at.put_start-q-requires c).Start));
+    }
 
 pub put-v-requires : goal.put-v-requires
 put-v-requires c =

@@ -14,7 +14,8 @@ put_plus_minus-q-requires c =
 
 pub finish-requires : goal.finish-requires
 finish-requires c =
-    able-then 0 (fresh-able (new (goal.at.finish-requires c).After-fresh-p) c.requires.runs_len_bound) c.put_plus_minus-q.ensures c.put_plus_minus-q.auto.out (omega arith)
+    able-then 0 (fresh-able (new (goal.at.finish-requires c).After-fresh-p) c.requires.runs_len_bound) c.put_plus_minus-q.ensures
+    c.put_plus_minus-q.auto.out (omega arith)
 
 pub returns : goal.returns
 returns c =

@@ -16,7 +16,10 @@ long c =
 
 pub put-requires : goal.put-requires
 put-requires c =
-    record { able = able-as c.requires.able (omega (arith, bits-length 7 _ (long (goal.at.put-requires c).Then-n-ge240))); n_bound = (omega arith, omega (arith, c.wide-base.ensures.1, c.requires.mark_bound)) }
+    record {
+      able = able-as c.requires.able (omega (arith, bits-length 7 _ (long (goal.at.put-requires c).Then-n-ge240)));
+      n_bound = (omega arith, omega (arith, c.wide-base.ensures.1, c.requires.mark_bound));
+    }
 
 pub returns-then-n-ge240 : goal.returns-then-n-ge240
 returns-then-n-ge240 c = puts-as c.put.ensures (long (goal.at.returns-then-n-ge240 c).Then-n-ge240)
@@ -28,7 +31,10 @@ short c =
 
 pub put-requires-2 : goal.put-requires-2
 put-requires-2 c =
-    record { able = able-as c.requires.able (omega (arith, bits-length 5 _ (short (goal.at.put-requires-2 c).Else-n-ge240))); n_bound = (omega arith, omega (arith, c.wide-base.ensures.1, c.requires.mark_bound)) }
+    record {
+      able = able-as c.requires.able (omega (arith, bits-length 5 _ (short (goal.at.put-requires-2 c).Else-n-ge240)));
+      n_bound = (omega arith, omega (arith, c.wide-base.ensures.1, c.requires.mark_bound));
+    }
 
 pub returns : goal.returns
 returns c = puts-as c.put-2.ensures (short (goal.at.returns c).Else-n-ge240)

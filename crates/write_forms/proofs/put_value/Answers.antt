@@ -33,7 +33,11 @@ absent c =
     way-absent c.args.w.method c.args.w.d c.args.w.count (take c.args.w.runs c.args.runs.now) c.if-method-eq5.true
 
 pub put-requires : goal.put-requires
-put-requires c = record { able = able-as c.requires.able (omega (arith, bits-length 3 5 (absent (goal.at.put-requires c).Then-method-eq5))); n_bound = (omega arith, omega arith) }
+put-requires c =
+    record {
+      able = able-as c.requires.able (omega (arith, bits-length 3 5 (absent (goal.at.put-requires c).Then-method-eq5)));
+      n_bound = (omega arith, omega arith);
+    }
 
 pub returns-then-method-eq5 : goal.returns-then-method-eq5
 returns-then-method-eq5 c = puts-as c.put.ensures (absent (goal.at.returns-then-method-eq5 c).Then-method-eq5)
@@ -45,11 +49,20 @@ module _ (c : Then-method-eq0) where
       way-marks w.method w.d w.count (take c.args.w.runs c.args.runs.now) c.if-method-eq0.true
 
 pub put-q-requires : goal.put-q-requires
-put-q-requires c = record { able = able-as c.requires.able (omega (arith, number-then 3 0 _ (marks (goal.at.put-q-requires c).Then-method-eq0))); n_bound = (omega arith, omega arith) }
+put-q-requires c =
+    record {
+      able = able-as c.requires.able (omega (arith, number-then 3 0 _ (marks (goal.at.put-q-requires c).Then-method-eq0)));
+      n_bound = (omega arith, omega arith);
+    }
 
 pub put_marks-requires : goal.put_marks-requires
 put_marks-requires c =
-    let put = c.put-q in record { count_le_found = (within (goal.at.put_marks-requires c).Start, (c.requires.way_planned.few, c.requires.way_planned.size)); able = able-then _ c.requires.able put.ensures put.auto.out (omega (arith, number-then 3 0 _ (marks (goal.at.put_marks-requires c).Then-method-eq0), length-low_bits 3 0)) }
+    let put = c.put-q in
+    record {
+      count_le_found = (within (goal.at.put_marks-requires c).Start, (c.requires.way_planned.few, c.requires.way_planned.size));
+      able = able-then _ c.requires.able put.ensures put.auto.out
+          (omega (arith, number-then 3 0 _ (marks (goal.at.put_marks-requires c).Then-method-eq0), length-low_bits 3 0));
+    }
 
 pub returns-then-method-eq0 : goal.returns-then-method-eq0
 returns-then-method-eq0 c =
@@ -64,14 +77,28 @@ module _ (c : Then-method-le4) where
 
 pub put-q-requires-then-method-le4 : goal.put-q-requires-then-method-le4
 put-q-requires-then-method-le4 c =
-    record { able = able-as c.requires.able (omega (arith, number-then 3 _ _ (in-runs (goal.at.put-q-requires-then-method-le4 c).Then-method-le4 refl refl))); n_bound = (omega arith, omega (arith, c.wide.ensures.0, c.if-method-le4.true)) }
+    record {
+      able = able-as c.requires.able (omega (
+        arith,
+        number-then 3 _ _
+            (in-runs (goal.at.put-q-requires-then-method-le4 c).Then-method-le4 refl refl),
+      ));
+      n_bound = (omega arith, omega (arith, c.wide.ensures.0, c.if-method-le4.true));
+    }
 
 pub put_runs-requires : goal.put_runs-requires
 put_runs-requires c =
     let put = c.put-q-then-method-le4 in record {
-      s_bound = (omega (arith, c.sized.ensures, c.if-method-le4.true), (c.requires.way_planned.few, omega (arith, c.requires.way_planned.few, c.requires.way_planned.size)));
+      s_bound = (
+        omega (arith, c.sized.ensures, c.if-method-le4.true),
+        (c.requires.way_planned.few, omega (arith, c.requires.way_planned.few, c.requires.way_planned.size)),
+      );
       able = able-then _ c.requires.able put.ensures put.auto.out
-          (omega (arith, number-then 3 _ _ (in-runs (goal.at.put_runs-requires c).Then-method-le4 c.wide.ensures.0 c.sized.ensures), length-low_bits 3 c.wide.result));
+          (omega (
+            arith,
+            number-then 3 _ _ (in-runs (goal.at.put_runs-requires c).Then-method-le4 c.wide.ensures.0 c.sized.ensures),
+            length-low_bits 3 c.wide.result,
+          ));
     }
 
 pub returns-then-method-le4 : goal.returns-then-method-le4
@@ -100,7 +127,11 @@ overflow_add-w c = omega (arith, (ready (goal.at.overflow_add-w c).Else-method-l
 
 pub put-q-requires-2 : goal.put-q-requires-2
 put-q-requires-2 c =
-    let l = ready (goal.at.put-q-requires-2 c).Else-method-le4 in record { able = able-as c.requires.able (omega (arith, number-then 5 _ _ (listed (goal.at.put-q-requires-2 c).Else-method-le4 refl refl))); n_bound = (omega arith, omega (arith, l.few, l.some)) }
+    let l = ready (goal.at.put-q-requires-2 c).Else-method-le4 in
+    record {
+      able = able-as c.requires.able (omega (arith, number-then 5 _ _ (listed (goal.at.put-q-requires-2 c).Else-method-le4 refl refl)));
+      n_bound = (omega arith, omega (arith, l.few, l.some));
+    }
 
 pub put_listed-requires : goal.put_listed-requires
 put_listed-requires c =
@@ -108,9 +139,15 @@ put_listed-requires c =
       w_bound = (w.1.0, (omega (arith, l.few), c.requires.way_planned.size));
       by_index = λ i. rw (cut (goal.at.put_listed-requires c).Else-method-le4) (omega (arith, l.places i, w.1.1));
       able = able-then _ c.requires.able c.put-q-2.ensures c.put-q-2.auto.out
-          (omega (arith, number-then 5 _ _ (listed (goal.at.put_listed-requires c).Else-method-le4 w.0 (cut (goal.at.put_listed-requires c).Else-method-le4)), length-low_bits 5 (28 + c.args.w.count - 1)));
+          (omega (
+            arith,
+            number-then 5 _ _ (listed (goal.at.put_listed-requires c).Else-method-le4 w.0
+                (cut (goal.at.put_listed-requires c).Else-method-le4)),
+            length-low_bits 5 (28 + c.args.w.count - 1),
+          ));
     }
 
 pub returns : goal.returns
 returns c =
-    puts-as (puts_then c.put-q-2.ensures c.put_listed.ensures) (listed (goal.at.returns c).Else-method-le4 c.width_of.ensures.0 (cut (goal.at.returns c).Else-method-le4))
+    puts-as (puts_then c.put-q-2.ensures c.put_listed.ensures)
+    (listed (goal.at.returns c).Else-method-le4 c.width_of.ensures.0 (cut (goal.at.returns c).Else-method-le4))

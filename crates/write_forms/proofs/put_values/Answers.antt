@@ -32,7 +32,14 @@ returns-then-plan-eq2 c =
 
 pub put_value-requires : goal.put_value-requires
 put_value-requires c =
-    let first = c.put_value-q in let second = c.put_value-r in let k = third-fits c.args.plan c.args.a.now c.args.b.now c.args.c.now c.if-plan-eq1.false c.if-plan-eq2.false in let d = length-append (way_of c.args.plan.first c.args.a.now) (way_of c.args.plan.second c.args.b.now) in record { way_planned = c.requires.values_ready.third c.if-plan-eq1.false c.if-plan-eq2.false; able = able-then _ c.requires.able (puts_then first.ensures second.ensures) (second.auto.out ∙ first.auto.out) (omega (arith, k, d)) }
+    let first = c.put_value-q in
+    let second = c.put_value-r in
+    let k = third-fits c.args.plan c.args.a.now c.args.b.now c.args.c.now c.if-plan-eq1.false c.if-plan-eq2.false in
+    let d = length-append (way_of c.args.plan.first c.args.a.now) (way_of c.args.plan.second c.args.b.now) in
+    record {
+      way_planned = c.requires.values_ready.third c.if-plan-eq1.false c.if-plan-eq2.false;
+      able = able-then _ c.requires.able (puts_then first.ensures second.ensures) (second.auto.out ∙ first.auto.out) (omega (arith, k, d));
+    }
 
 pub returns : goal.returns
 returns c =

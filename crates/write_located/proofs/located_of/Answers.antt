@@ -48,5 +48,6 @@ returns c =
     let told = c.values_of-v.ensures in
     let turn = turn-of c.requires.tallied.0 (law-for c.args.mask c.requires.frame_in.1) c.args.k.row flag.result
     c.plus_zero.ensures told in
-    located-is c.requires.tallied.0 (size (goal.at.returns c).Start) c.requires.row_value (tested (goal.at.returns c).Start) refl flag.ensures.0 flag.ensures.1 told
+    located-is c.requires.tallied.0 (size (goal.at.returns c).Start) c.requires.row_value (tested (goal.at.returns c).Start) refl
+    flag.ensures.0 flag.ensures.1 told
     turn c.ways_of-w.ensures c.located_bits-bits.ensures

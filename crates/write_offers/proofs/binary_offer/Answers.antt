@@ -15,6 +15,8 @@ pub returns : goal.returns
 returns c =
     let m = c.args.mask in
     let z = c.zeros_in-z.ensures in
-    let on = rice-applies m (take c.args.n c.args.samples.now) ∙ zeros-apply m (take c.args.n c.args.samples.now) ∙ sym (zeros-counted m (take c.args.n c.args.samples.now) (size (goal.at.returns c).Start) z.plus z.minus) in
-    offer-one m 5 (take c.args.n c.args.samples.now) (omega arith) on (c.binary_bits.ensures ∙ binary-bits m (take c.args.n c.args.samples.now) (size (goal.at.returns c).Start))
+    let on = rice-applies m (take c.args.n c.args.samples.now) ∙ zeros-apply m (take c.args.n c.args.samples.now) ∙ sym
+    (zeros-counted m (take c.args.n c.args.samples.now) (size (goal.at.returns c).Start) z.plus z.minus) in
+    offer-one m 5 (take c.args.n c.args.samples.now) (omega arith) on
+    (c.binary_bits.ensures ∙ binary-bits m (take c.args.n c.args.samples.now) (size (goal.at.returns c).Start))
     (omega (arith, c.binary_bits.ensures, c.requires.0.few)) c.offer_if.ensures

@@ -17,7 +17,10 @@ low c = low-tool c.args.tool c.requires.tool_value c.if-tool-eq11.false
 
 pub whole_offer-requires : goal.whole_offer-requires
 whole_offer-requires c =
-    record { frame_in = (c.requires.frame_in.0, mask-seven _ c.requires.frame_in.1); le_tool = ((low (goal.at.whole_offer-requires c).Else-tool-eq11).0, c.if-tool-le4.true) }
+    record {
+      frame_in = (c.requires.frame_in.0, mask-seven _ c.requires.frame_in.1);
+      le_tool = ((low (goal.at.whole_offer-requires c).Else-tool-eq11).0, c.if-tool-le4.true);
+    }
 
 pub returns-then-tool-le4 : goal.returns-then-tool-le4
 returns-then-tool-le4 c = c.whole_offer.ensures

@@ -19,13 +19,15 @@ bits_are c t e = c.whole_bits-bits.ensures ∙ ap (λ (k : ℕ). whole_bits k c.
 pub returns-then-tool-eq1 : goal.returns-then-tool-eq1
 returns-then-tool-eq1 c =
     let t = c.if-tool-eq1.true in
-    offer-as t (uncompressed-offer c.args.mask (take c.args.n c.args.samples.now) (size (goal.at.returns-then-tool-eq1 c).Start) c.requires.frame_in.0.few (bits_are (goal.at.returns-then-tool-eq1 c).After-whole_bits-bits 1 t) c.offer_if.ensures)
+    offer-as t (uncompressed-offer c.args.mask (take c.args.n c.args.samples.now) (size (goal.at.returns-then-tool-eq1 c).Start)
+    c.requires.frame_in.0.few (bits_are (goal.at.returns-then-tool-eq1 c).After-whole_bits-bits 1 t) c.offer_if.ensures)
 
 pub returns-then-tool-eq2 : goal.returns-then-tool-eq2
 returns-then-tool-eq2 c =
     let t = c.if-tool-eq2.true in
     offer-as t
-    (plus-offer c.args.mask (take c.args.n c.args.samples.now) c.plus_zero.ensures (bits_are (goal.at.returns-then-tool-eq2 c).After-whole_bits-bits 2 t) c.one_value_offer.ensures)
+    (plus-offer c.args.mask (take c.args.n c.args.samples.now) c.plus_zero.ensures
+    (bits_are (goal.at.returns-then-tool-eq2 c).After-whole_bits-bits 2 t) c.one_value_offer.ensures)
 
 pub returns-then-tool-eq3 : goal.returns-then-tool-eq3
 returns-then-tool-eq3 c =
@@ -38,4 +40,5 @@ pub returns : goal.returns
 returns c =
     let first = sym (get_or-take c.args.n c.args.samples.now 0 0 c.requires.frame_in.0.some) in
     let t : c.args.tool ≡ 4 = omega (arith, c.requires.le_tool, c.if-tool-eq1.false, c.if-tool-eq2.false, c.if-tool-eq3.false) in
-    offer-as t (constant-offer c.args.mask (take c.args.n c.args.samples.now) first (bits_are (goal.at.returns c).After-whole_bits-bits 4 t) c.one_value_offer-2.ensures)
+    offer-as t (constant-offer c.args.mask (take c.args.n c.args.samples.now) first
+    (bits_are (goal.at.returns c).After-whole_bits-bits 4 t) c.one_value_offer-2.ensures)

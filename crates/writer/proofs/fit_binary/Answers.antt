@@ -9,7 +9,10 @@ returns-then-out-octets_for c =
 
 pub put_binary-requires : goal.put_binary-requires
 put_binary-requires c =
-    record { row_ready = c.requires.row_ready.0; row_len_bound = form-fits (binary_form c.args.n c.args.row.now) c.requires.bits_value c.octets_for.ensures c.if-out-octets_for.false }
+    record {
+      row_ready = c.requires.row_ready.0;
+      row_len_bound = form-fits (binary_form c.args.n c.args.row.now) c.requires.bits_value c.octets_for.ensures c.if-out-octets_for.false;
+    }
 
 pub returns : goal.returns
 returns c =

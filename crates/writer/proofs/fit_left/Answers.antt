@@ -32,7 +32,11 @@ returns-then-seen c = c.fit_zeros.ensures
 
 pub fit_near-requires : goal.fit_near-requires
 fit_near-requires c =
-    let l = c.requires.settles.0 in let n = c.args.n in let close = c.args.seen.close in let near : (close && leb 80 n) ≡ true = sym c.is_near.ensures ∙ c.if-is_near.true in record {
+    let l = c.requires.settles.0 in
+    let n = c.args.n in
+    let close = c.args.seen.close in
+    let near : (close && leb 80 n) ≡ true = sym c.is_near.ensures ∙ c.if-is_near.true in
+    record {
       frame_in = c.requires.frame_in;
       left = (
         left (goal.at.fit_near-requires c).Start,
@@ -49,7 +53,17 @@ returns-then-is_near c = c.fit_near.ensures
 
 pub fit_plain-requires : goal.fit_plain-requires
 fit_plain-requires c =
-    let last = c.last_of-last.ensures in let l = c.requires.settles.0 in let off = sym c.is_near.ensures ∙ c.if-is_near.false in record { frame_in = c.requires.frame_in; chosen = (last-left (size (goal.at.fit_plain-requires c).Start) (left (goal.at.fit_plain-requires c).Start) (sym l.zeros ∙ c.if-seen.false) l.close off last, last.plain) }
+    let last = c.last_of-last.ensures in
+    let l = c.requires.settles.0 in
+    let off = sym c.is_near.ensures ∙ c.if-is_near.false in
+    record {
+      frame_in = c.requires.frame_in;
+      chosen = (
+        last-left (size (goal.at.fit_plain-requires c).Start) (left (goal.at.fit_plain-requires c).Start)
+            (sym l.zeros ∙ c.if-seen.false) l.close off last,
+        last.plain,
+      );
+    }
 
 pub returns : goal.returns
 returns c = c.fit_plain.ensures

@@ -43,7 +43,11 @@ returns-in-Last c = c.fit_plain.ensures
 
 pub fit_values-requires : goal.fit_values-requires
 fit_values-requires c =
-    let p = planned (goal.at.fit_values-requires c).After-near_plan-plan c.in-Values.is in record { located_ready = (located-ready p.needs, p.chosen.small); bits_value = tool-bits p.chosen (values (goal.at.fit_values-requires c).After-near_plan-plan p.needs) }
+    let p = planned (goal.at.fit_values-requires c).After-near_plan-plan c.in-Values.is in
+    record {
+      located_ready = (located-ready p.needs, p.chosen.small);
+      bits_value = tool-bits p.chosen (values (goal.at.fit_values-requires c).After-near_plan-plan p.needs);
+    }
 
 pub returns-in-Values : goal.returns-in-Values
 returns-in-Values c =

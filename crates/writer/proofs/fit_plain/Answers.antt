@@ -7,7 +7,11 @@ returns-then-out-octets_for c = chosen-left c.requires.chosen.0 c.octets_for.ens
 
 pub put_plain-requires : goal.put_plain-requires
 put_plain-requires c =
-    record { frame_in = c.requires.frame_in; plain_is = c.requires.chosen.1; samples_len_bound = chosen-fits c.requires.chosen.0 c.octets_for.ensures c.if-out-octets_for.false }
+    record {
+      frame_in = c.requires.frame_in;
+      plain_is = c.requires.chosen.1;
+      samples_len_bound = chosen-fits c.requires.chosen.0 c.octets_for.ensures c.if-out-octets_for.false;
+    }
 
 pub returns : goal.returns
 returns c =

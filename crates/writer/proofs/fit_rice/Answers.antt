@@ -9,7 +9,11 @@ returns-then-out-octets_for c =
 
 pub put_rice-requires : goal.put_rice-requires
 put_rice-requires c =
-    record { rice_ready = c.requires.rice_ready.0; runs_len_bound = form-fits (rice_form_of c.args.n c.args.plan c.args.runs.now) c.requires.bits_value c.octets_for.ensures c.if-out-octets_for.false }
+    record {
+      rice_ready = c.requires.rice_ready.0;
+      runs_len_bound = form-fits (rice_form_of c.args.n c.args.plan c.args.runs.now) c.requires.bits_value c.octets_for.ensures
+          c.if-out-octets_for.false;
+    }
 
 pub returns : goal.returns
 returns c =

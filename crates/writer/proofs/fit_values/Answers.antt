@@ -9,8 +9,13 @@ returns-then-out-octets_for c =
 
 pub put_located-requires : goal.put_located-requires
 put_located-requires c =
-    record { located_ready = c.requires.located_ready.0; c_len_bound = form-fits (plan_form c.args.n c.args.plan c.args.a.now c.args.b.now c.args.c.now) c.requires.bits_value c.octets_for.ensures c.if-out-octets_for.false }
+    record {
+      located_ready = c.requires.located_ready.0;
+      c_len_bound = form-fits (plan_form c.args.n c.args.plan c.args.a.now c.args.b.now c.args.c.now) c.requires.bits_value
+          c.octets_for.ensures c.if-out-octets_for.false;
+    }
 
 pub returns : goal.returns
 returns c =
-    form-put (plan_form c.args.n c.args.plan c.args.a.now c.args.b.now c.args.c.now) c.requires.bits_value c.octets_for.ensures c.if-out-octets_for.false c.put_located.ensures
+    form-put (plan_form c.args.n c.args.plan c.args.a.now c.args.b.now c.args.c.now) c.requires.bits_value c.octets_for.ensures
+    c.if-out-octets_for.false c.put_located.ensures

@@ -28,8 +28,21 @@ returns-then-out-octets_for c =
 
 pub put_whole-requires : goal.put_whole-requires
 put_whole-requires c =
-    record { le_tool = c.requires.frame_in.1; frame_in = c.requires.frame_in.0; tool_in_bounds = omega (arith, length-bits_of (whole_octets c.args.c.tool (take c.args.n c.args.samples.now)), size (goal.at.put_whole-requires c).Start, c.requires.bits_value.0, c.octets_for.ensures, c.if-out-octets_for.false) }
+    record {
+      le_tool = c.requires.frame_in.1;
+      frame_in = c.requires.frame_in.0;
+      tool_in_bounds = omega (
+        arith,
+        length-bits_of (whole_octets c.args.c.tool (take c.args.n c.args.samples.now)),
+        size
+            (goal.at.put_whole-requires c).Start,
+        c.requires.bits_value.0,
+        c.octets_for.ensures,
+        c.if-out-octets_for.false,
+      );
+    }
 
 pub returns : goal.returns
 returns c =
-    form-put (bits_of (whole_octets c.args.c.tool (take c.args.n c.args.samples.now))) c.requires.bits_value.0 c.octets_for.ensures c.if-out-octets_for.false c.put_whole.ensures
+    form-put (bits_of (whole_octets c.args.c.tool (take c.args.n c.args.samples.now))) c.requires.bits_value.0 c.octets_for.ensures
+    c.if-out-octets_for.false c.put_whole.ensures

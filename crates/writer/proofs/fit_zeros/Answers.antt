@@ -27,7 +27,13 @@ module _ (c : After-others-row) where
   words = row-flags c.args.mask c.requires.frame_in.0 c.plus_zero.ensures c.others-row.ensures
 
 pub zeros_plan-plan-requires : goal.zeros_plan-plan-requires
-zeros_plan-plan-requires c = record { frame_in = c.requires.frame_in; left = c.requires.left; row_is = words (goal.at.zeros_plan-plan-requires c).After-others-row; runs_len = refl }
+zeros_plan-plan-requires c =
+    record {
+      frame_in = c.requires.frame_in;
+      left = c.requires.left;
+      row_is = words (goal.at.zeros_plan-plan-requires c).After-others-row;
+      runs_len = refl;
+    }
 
 -- the plan, as it was told apart
 module _ (c : After-zeros_plan-plan) where
@@ -57,7 +63,11 @@ module _ (c : After-zeros_plan-plan) where
 
 pub fit_whole-requires : goal.fit_whole-requires
 fit_whole-requires c =
-    let p = planned (goal.at.fit_whole-requires c).After-zeros_plan-plan c.in-Whole.is in record { frame_in = (c.requires.frame_in.0, p.needs); bits_value = (tool-bits p.chosen (whole (goal.at.fit_whole-requires c).After-zeros_plan-plan _ p.needs), p.chosen.small) }
+    let p = planned (goal.at.fit_whole-requires c).After-zeros_plan-plan c.in-Whole.is in
+    record {
+      frame_in = (c.requires.frame_in.0, p.needs);
+      bits_value = (tool-bits p.chosen (whole (goal.at.fit_whole-requires c).After-zeros_plan-plan _ p.needs), p.chosen.small);
+    }
 
 pub returns-in-Whole : goal.returns-in-Whole
 returns-in-Whole c =
@@ -66,7 +76,12 @@ returns-in-Whole c =
 
 pub fit_binary-requires : goal.fit_binary-requires
 fit_binary-requires c =
-    let p = planned (goal.at.fit_binary-requires c).After-zeros_plan-plan c.in-Binary.is in let row = words (goal.at.fit_binary-requires c).After-others-row in record { row_ready = (record { few = c.requires.frame_in.0.few; size = row.size; small = row.small }, p.chosen.small); bits_value = tool-bits p.chosen (binary (goal.at.fit_binary-requires c).After-zeros_plan-plan) }
+    let p = planned (goal.at.fit_binary-requires c).After-zeros_plan-plan c.in-Binary.is in
+    let row = words (goal.at.fit_binary-requires c).After-others-row in
+    record {
+      row_ready = (record { few = c.requires.frame_in.0.few; size = row.size; small = row.small }, p.chosen.small);
+      bits_value = tool-bits p.chosen (binary (goal.at.fit_binary-requires c).After-zeros_plan-plan);
+    }
 
 pub returns-in-Binary : goal.returns-in-Binary
 returns-in-Binary c =
@@ -75,9 +90,12 @@ returns-in-Binary c =
 
 pub fit_rice-requires : goal.fit_rice-requires
 fit_rice-requires c =
-    let p = planned (goal.at.fit_rice-requires c).After-zeros_plan-plan c.in-Rice.is in let rice = rice-form (c.args.n) (take c.args.n c.args.samples.now) (size (goal.at.fit_rice-requires c).After-zeros_plan-plan) p.needs in record { rice_ready = (rice-ready c.requires.frame_in.0 p.needs, p.chosen.small); bits_value = tool-bits p.chosen rice }
+    let p = planned (goal.at.fit_rice-requires c).After-zeros_plan-plan c.in-Rice.is in
+    let rice = rice-form (c.args.n) (take c.args.n c.args.samples.now) (size (goal.at.fit_rice-requires c).After-zeros_plan-plan) p.needs in
+    record { rice_ready = (rice-ready c.requires.frame_in.0 p.needs, p.chosen.small); bits_value = tool-bits p.chosen rice }
 
 pub returns-in-Rice : goal.returns-in-Rice
 returns-in-Rice c =
     let p = planned (goal.at.returns-in-Rice c).After-zeros_plan-plan c.in-Rice.is in
-    tool-puts p.chosen (rice-form (c.args.n) (take c.args.n c.args.samples.now) (size (goal.at.returns-in-Rice c).After-zeros_plan-plan) p.needs) c.fit_rice.ensures
+    tool-puts p.chosen (rice-form (c.args.n) (take c.args.n c.args.samples.now)
+    (size (goal.at.returns-in-Rice c).After-zeros_plan-plan) p.needs) c.fit_rice.ensures

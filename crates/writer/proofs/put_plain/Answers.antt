@@ -32,7 +32,21 @@ module _ (c : Start) where
 
 pub put_whole-requires : goal.put_whole-requires
 put_whole-requires c =
-    let other = c.if-choice-ne11.true in let e = ap length (whole_is (goal.at.put_whole-requires c).Start other) in let size = whole_length (c.args.p.choice.tool) (take c.args.n c.args.samples.now) (cells-length c.requires.frame_in.0) in record { le_tool = c.requires.plain_is.kind other; frame_in = c.requires.frame_in.0; tool_in_bounds = omega (arith, e, size, length-bits_of (whole_octets (c.args.p.choice.tool) (take c.args.n c.args.samples.now)), c.requires.samples_len_bound) }
+    let other = c.if-choice-ne11.true in
+    let e = ap length (whole_is (goal.at.put_whole-requires c).Start other) in
+    let size = whole_length (c.args.p.choice.tool) (take c.args.n c.args.samples.now) (cells-length c.requires.frame_in.0) in
+    record {
+      le_tool = c.requires.plain_is.kind other;
+      frame_in = c.requires.frame_in.0;
+      tool_in_bounds = omega (
+        arith,
+        e,
+        size,
+        length-bits_of
+            (whole_octets (c.args.p.choice.tool) (take c.args.n c.args.samples.now)),
+        c.requires.samples_len_bound,
+      );
+    }
 
 pub returns-then-choice-ne11 : goal.returns-then-choice-ne11
 returns-then-choice-ne11 c =
@@ -40,7 +54,22 @@ returns-then-choice-ne11 c =
 
 pub put_fractional-requires : goal.put_fractional-requires
 put_fractional-requires c =
-    let eleven = c.if-choice-ne11.false in let octets = c.shared_slice_known-1.given in let b : Below 256 (take c.args.n c.args.samples.now) = below-take c.args.n (below_all c.args.samples.now (λ i. (octets i).fits)) in let size = cells-length c.requires.frame_in.0 in let p = c.args.p in record { frame_in = (c.requires.frame_in.0, c.requires.frame_in.1, row-few c.args.mask c.args.n (take c.args.n c.args.samples.now) p size c.requires.plain_is eleven); by_index = row-digits c.args.mask c.args.n (take c.args.n c.args.samples.now) p size c.requires.plain_is eleven (law-for c.args.mask c.requires.frame_in.1) b; samples_len_bound = rw (row_is (goal.at.put_fractional-requires c).Start eleven) c.requires.samples_len_bound }
+    let eleven = c.if-choice-ne11.false in
+    let octets = c.shared_slice_known-1.given in
+    let b : Below 256 (take c.args.n c.args.samples.now) = below-take c.args.n (below_all c.args.samples.now (λ i. (octets i).fits)) in
+    let size = cells-length c.requires.frame_in.0 in
+    let p = c.args.p in
+    record {
+      frame_in = (
+        c.requires.frame_in.0,
+        c.requires.frame_in.1,
+        row-few c.args.mask c.args.n (take c.args.n c.args.samples.now) p
+            size c.requires.plain_is eleven,
+      );
+      by_index = row-digits c.args.mask c.args.n (take c.args.n c.args.samples.now) p size c.requires.plain_is eleven
+          (law-for c.args.mask c.requires.frame_in.1) b;
+      samples_len_bound = rw (row_is (goal.at.put_fractional-requires c).Start eleven) c.requires.samples_len_bound;
+    }
 
 pub returns : goal.returns
 returns c =

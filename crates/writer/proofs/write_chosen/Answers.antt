@@ -29,7 +29,12 @@ module _ (c : Then-seen-ne0) where
 
 pub write_whole-requires : goal.write_whole-requires
 write_whole-requires c =
-    let bits = (chosen (goal.at.write_whole-requires c).Then-seen-ne0).bits ∙ ap (λ (w : Written). length w.bits) (sym (settled (goal.at.write_whole-requires c).Then-seen-ne0)) in record { frame_in = (c.requires.0, (some (goal.at.write_whole-requires c).Then-seen-ne0, c.choose-seen.ensures.most)); bits_value = (bits, (chosen (goal.at.write_whole-requires c).Then-seen-ne0).small) }
+    let bits = (chosen (goal.at.write_whole-requires c).Then-seen-ne0).bits ∙ ap (λ (w : Written). length w.bits)
+    (sym (settled (goal.at.write_whole-requires c).Then-seen-ne0)) in
+    record {
+      frame_in = (c.requires.0, (some (goal.at.write_whole-requires c).Then-seen-ne0, c.choose-seen.ensures.most));
+      bits_value = (bits, (chosen (goal.at.write_whole-requires c).Then-seen-ne0).small);
+    }
 
 pub returns-then-seen-ne0 : goal.returns-then-seen-ne0
 returns-then-seen-ne0 c =

@@ -28,13 +28,27 @@ module _ (c : Start) where
 
 pub returns-then-out-octets_for : goal.returns-then-out-octets_for
 returns-then-out-octets_for c =
-    no_room (plain c.args.tool (take c.args.n c.args.samples.now)) (omega (arith, c.requires.bits_value.0, c.octets_for.ensures, c.if-out-octets_for.true)) c.refused.ensures
+    no_room (plain c.args.tool (take c.args.n c.args.samples.now))
+    (omega (arith, c.requires.bits_value.0, c.octets_for.ensures, c.if-out-octets_for.true)) c.refused.ensures
 
 pub put_whole-octets-requires : goal.put_whole-octets-requires
 put_whole-octets-requires c =
-    record { le_tool = c.requires.frame_in.1; frame_in = c.requires.frame_in.0; tool_in_bounds = omega (arith, length-bits_of (whole_octets c.args.tool (take c.args.n c.args.samples.now)), size (goal.at.put_whole-octets-requires c).Start, c.requires.bits_value.0, c.octets_for.ensures, c.if-out-octets_for.false) }
+    record {
+      le_tool = c.requires.frame_in.1;
+      frame_in = c.requires.frame_in.0;
+      tool_in_bounds = omega (
+        arith,
+        length-bits_of (whole_octets c.args.tool (take c.args.n c.args.samples.now)),
+        size
+            (goal.at.put_whole-octets-requires c).Start,
+        c.requires.bits_value.0,
+        c.octets_for.ensures,
+        c.if-out-octets_for.false,
+      );
+    }
 
 pub returns : goal.returns
 returns c =
-    all-written (plain c.args.tool (take c.args.n c.args.samples.now)) (omega (arith, c.requires.bits_value.0, c.octets_for.ensures, c.if-out-octets_for.false)) c.put_whole-octets.ensures
+    all-written (plain c.args.tool (take c.args.n c.args.samples.now))
+    (omega (arith, c.requires.bits_value.0, c.octets_for.ensures, c.if-out-octets_for.false)) c.put_whole-octets.ensures
     c.requires.bits_value.0 refl c.wrote.ensures

@@ -23,7 +23,9 @@ pub returns-then-tool-eq4 : goal.returns-then-tool-eq4
 returns-then-tool-eq4 c = constant-is _ _ _ _ (sizes (goal.at.returns-then-tool-eq4 c).After-shared_slice_known-1) (omega arith) (omega arith)
 
 pub returns-then-octets-n : goal.returns-then-octets-n
-returns-then-octets-n c = rw c.missing-then-octets-n.ensures (octets-short _ _ _ _ (sizes (goal.at.returns-then-octets-n c).After-shared_slice_known-1) (omega arith) (omega arith) (omega arith))
+returns-then-octets-n c =
+    rw c.missing-then-octets-n.ensures (octets-short _ _ _ _ (sizes (goal.at.returns-then-octets-n c).After-shared_slice_known-1)
+    (omega arith) (omega arith) (omega arith))
 
 pub returns : goal.returns
 returns c = octets-are _ _ _ _ (sizes (goal.at.returns c).After-shared_slice_known-1) (omega arith) (omega arith)

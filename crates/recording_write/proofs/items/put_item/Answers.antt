@@ -25,7 +25,8 @@ slice_bounds-put_form-end c =
 pub put_form-requires : goal.put_form-requires
 put_form-requires c =
     let n = c.length_in-n in let f = frame-for (mask_of c.args.by.law) c.args.by.set c.args.c n.result n.ensures
-    c.args.samples.now c.args.from c.requires.item_in.0 (omega arith) in record { frame_value = (f.six, c.requires.lawful.0); frame_in_bounds = omega (arith, c.requires.samples_in_bounds, ap length f.octets) }
+    c.args.samples.now c.args.from c.requires.item_in.0 (omega arith) in record
+    { frame_value = (f.six, c.requires.lawful.0); frame_in_bounds = omega (arith, c.requires.samples_in_bounds, ap length f.octets) }
 
 pub returns-then-c-lt-LOSS_FROM : goal.returns-then-c-lt-LOSS_FROM
 returns-then-c-lt-LOSS_FROM c =
@@ -60,7 +61,8 @@ slice_bounds-put_form-end-2 c =
 pub put_form-requires-2 : goal.put_form-requires-2
 put_form-requires-2 c =
     let n = c.length_in-n in let f = loss-for (mask_of c.args.by.law) c.args.by.set c.args.c n.result n.ensures
-    c.requires.item_in.0 c.requires.lawful.1 (omega arith) c.if-n-eq0.false in record { frame_value = (f.six, c.requires.lawful.0); frame_in_bounds = omega (arith, c.requires.samples_in_bounds, ap length f.octets) }
+    c.requires.item_in.0 c.requires.lawful.1 (omega arith) c.if-n-eq0.false in record
+    { frame_value = (f.six, c.requires.lawful.0); frame_in_bounds = omega (arith, c.requires.samples_in_bounds, ap length f.octets) }
 
 pub returns : goal.returns
 returns c =

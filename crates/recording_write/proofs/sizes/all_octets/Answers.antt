@@ -14,7 +14,8 @@ returns-then-sum-gt-LONGEST c =
 
 pub item_octets-sum-requires : goal.item_octets-sum-requires
 item_octets-sum-requires c =
-    let g = c.loop-i.invariant.going in record { item_in = (going-item c.args.cells.now c.args.samples.now g (omega arith), g.inside); lawful = c.requires.lawful }
+    let g = c.loop-i.invariant.going in
+    record { item_in = (going-item c.args.cells.now c.args.samples.now g (omega arith), g.inside); lawful = c.requires.lawful }
 
 pub overflow_add-from : goal.overflow_add-from
 overflow_add-from c =

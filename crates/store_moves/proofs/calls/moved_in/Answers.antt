@@ -130,18 +130,21 @@ module _ (c : After-row_at-r) where
 pub returns-then-r-x : goal.returns-then-r-x
 returns-then-r-x c =
     let a = c.args in
-    is-not-next a.table.now (moved_other (rows_of a.table.now) a.x a.to (is (goal.at.returns-then-r-x c).After-row_at-r) (has (goal.at.returns-then-r-x c).After-row_at-r) (next (goal.at.returns-then-r-x c).After-row_at-r)
+    is-not-next a.table.now (moved_other (rows_of a.table.now) a.x a.to (is (goal.at.returns-then-r-x c).After-row_at-r)
+    (has (goal.at.returns-then-r-x c).After-row_at-r) (next (goal.at.returns-then-r-x c).After-row_at-r)
     (λ e. c.if-r-x.true (sym (named (goal.at.returns-then-r-x c).After-row_at-r) ∙ e)))
 
 pub returns-then-at-to : goal.returns-then-at-to
 returns-then-at-to c =
     let a = c.args in
-    is-not-next a.table.now (moved-elsewhere (rows_of a.table.now) a.x a.to (is (goal.at.returns-then-at-to c).After-row_at-r) (has (goal.at.returns-then-at-to c).After-row_at-r) (next (goal.at.returns-then-at-to c).After-row_at-r)
+    is-not-next a.table.now (moved-elsewhere (rows_of a.table.now) a.x a.to (is (goal.at.returns-then-at-to c).After-row_at-r)
+    (has (goal.at.returns-then-at-to c).After-row_at-r) (next (goal.at.returns-then-at-to c).After-row_at-r)
     (named (goal.at.returns-then-at-to c).After-row_at-r ∙ c.if-r-x.false) c.if-at-to.true)
 
 pub overflow_cast-table : goal.overflow_cast-table
 overflow_cast-table c =
-    let n = row_next (c.wide-n.result) (c.in-Goes.i) c.requires.0.order c.wide-n.ensures c.row_at-r.ensures.0 (within (goal.at.overflow_cast-table c).In-Goes).0 in
+    let n = row_next (c.wide-n.result) (c.in-Goes.i) c.requires.0.order c.wide-n.ensures c.row_at-r.ensures.0
+    (within (goal.at.overflow_cast-table c).In-Goes).0 in
     omega (arith, n.above, n.inside, (within (goal.at.overflow_cast-table c).In-Goes).1, c.requires.1)
 
 pub overflow_add-table : goal.overflow_add-table
@@ -156,7 +159,10 @@ bounds-table-k c = omega (arith, below (goal.at.bounds-table-k c).In-Goes, cells
 pub returns-else-at-to : goal.returns-else-at-to
 returns-else-at-to c =
     let a = c.args in
-    made a.table.now (moved-there (rows_of a.table.now) a.x a.to (is (goal.at.returns-else-at-to c).After-row_at-r) (has (goal.at.returns-else-at-to c).After-row_at-r) (next (goal.at.returns-else-at-to c).After-row_at-r)
+    made a.table.now (moved-there (rows_of a.table.now) a.x a.to (is (goal.at.returns-else-at-to c).After-row_at-r)
+    (has (goal.at.returns-else-at-to c).After-row_at-r) (next (goal.at.returns-else-at-to c).After-row_at-r)
     (named (goal.at.returns-else-at-to c).After-row_at-r ∙ c.if-r-x.false) c.if-at-to.false)
-    (start-told a.table.now (c.wide-n.result) (c.in-Goes.i) c.wide-n.ensures (omega (arith, few (goal.at.returns-else-at-to c).In-Goes, cells (goal.at.returns-else-at-to c).In-Goes)) (within (goal.at.returns-else-at-to c).In-Goes).0
+    (start-told a.table.now (c.wide-n.result) (c.in-Goes.i) c.wide-n.ensures
+    (omega (arith, few (goal.at.returns-else-at-to c).In-Goes, cells (goal.at.returns-else-at-to c).In-Goes))
+    (within (goal.at.returns-else-at-to c).In-Goes).0
     c.in-Goes.at)

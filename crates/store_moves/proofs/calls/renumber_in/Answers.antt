@@ -44,7 +44,8 @@ find-i-requires c =
 pub returns-then-n-i : goal.returns-then-n-i
 returns-then-n-i c =
     let a = c.args in
-    denied a.table.now (renumber-absent (rows_of a.table.now) a.x a.to (numbered (goal.at.returns-then-n-i c).Else-not-is_number-2) (second (goal.at.returns-then-n-i c).Else-not-is_number-2)
+    denied a.table.now (renumber-absent (rows_of a.table.now) a.x a.to (numbered (goal.at.returns-then-n-i c).Else-not-is_number-2)
+    (second (goal.at.returns-then-n-i c).Else-not-is_number-2)
     (find_none a.table.now a.x c.wide-n.ensures c.find-i.ensures.0 (omega arith)))
 
 pub find-requires : goal.find-requires
@@ -68,7 +69,9 @@ module _ (c : After-find) where
 pub returns-then-find-n : goal.returns-then-find-n
 returns-then-find-n c =
     let a = c.args in
-    denied a.table.now (renumber-taken (rows_of a.table.now) a.x a.to (numbered (goal.at.returns-then-find-n c).Else-not-is_number-2) (second (goal.at.returns-then-find-n c).Else-not-is_number-2) (has (goal.at.returns-then-find-n c).After-find)
+    denied a.table.now (renumber-taken (rows_of a.table.now) a.x a.to
+    (numbered (goal.at.returns-then-find-n c).Else-not-is_number-2) (second (goal.at.returns-then-find-n c).Else-not-is_number-2)
+    (has (goal.at.returns-then-find-n c).After-find)
     (find-held a.table.now a.to c.wide-n.ensures (other (goal.at.returns-then-find-n c).After-find) (omega arith)))
 
 pub bounds-table-i : goal.bounds-table-i
@@ -81,7 +84,8 @@ returns c =
     let a = c.args in
     let o = c.requires.order in
     let n = c.wide-n.ensures in
-    made a.table.now (renumber-made (rows_of a.table.now) a.x a.to (numbered (goal.at.returns c).Else-not-is_number-2) (second (goal.at.returns c).Else-not-is_number-2) (has (goal.at.returns c).After-find)
+    made a.table.now (renumber-made (rows_of a.table.now) a.x a.to (numbered (goal.at.returns c).Else-not-is_number-2)
+    (second (goal.at.returns c).Else-not-is_number-2) (has (goal.at.returns c).After-find)
     (find_none a.table.now a.to n (other (goal.at.returns c).After-find) (omega arith)))
     (number-told a.table.now c.wide-n.result c.find-i.result n (omega (arith, o.few, o.cells, n))
     (omega (arith, c.if-n-i.false)) a.to

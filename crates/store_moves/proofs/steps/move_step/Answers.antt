@@ -29,11 +29,18 @@ returns-in-Still c =
 
 pub hop_or_lift-after-requires : goal.hop_or_lift-after-requires
 hop_or_lift-after-requires c =
-    moving-tells (sane-of (c.args.block.now) (c.args.spare.now) (c.args.words.now) (tells (goal.at.hop_or_lift-after-requires c).After-told-state) c.in-Moving.is)
+    moving-tells (sane-of (c.args.block.now) (c.args.spare.now) (c.args.words.now)
+    (tells (goal.at.hop_or_lift-after-requires c).After-told-state) c.in-Moving.is)
 
 pub tell-requires : goal.tell-requires
 tell-requires c =
-    let f = c.in-Moving.is in record { page_bound = page-of (c.args.block.now) (c.args.spare.now) (c.args.words.now) (tells (goal.at.tell-requires c).After-told-state) f; fits = step_fits (c.args.block.now) (c.args.spare.now) (sane-of (c.args.block.now) (c.args.spare.now) (c.args.words.now) (tells (goal.at.tell-requires c).After-told-state) f) c.hop_or_lift-after.ensures }
+    let f = c.in-Moving.is in
+    record {
+      page_bound = page-of (c.args.block.now) (c.args.spare.now) (c.args.words.now) (tells (goal.at.tell-requires c).After-told-state) f;
+      fits = step_fits (c.args.block.now) (c.args.spare.now)
+          (sane-of (c.args.block.now) (c.args.spare.now) (c.args.words.now) (tells (goal.at.tell-requires c).After-told-state) f)
+          c.hop_or_lift-after.ensures;
+    }
 
 pub returns-in-Moving : goal.returns-in-Moving
 returns-in-Moving c =
@@ -42,11 +49,20 @@ returns-in-Moving c =
 
 pub lay-after-requires : goal.lay-after-requires
 lay-after-requires c =
-    let r = lifted-tells (sane-of (c.args.block.now) (c.args.spare.now) (c.args.words.now) (tells (goal.at.lay-after-requires c).After-told-state) c.in-Lifted.is) in record { tells = r.0; m_in_bounds = r.1 }
+    let r = lifted-tells (sane-of (c.args.block.now) (c.args.spare.now) (c.args.words.now)
+    (tells (goal.at.lay-after-requires c).After-told-state) c.in-Lifted.is) in
+    record { tells = r.0; m_in_bounds = r.1 }
 
 pub tell-requires-in-Lifted : goal.tell-requires-in-Lifted
 tell-requires-in-Lifted c =
-    let f = c.in-Lifted.is in record { page_bound = page-of-lifted (c.args.block.now) (c.args.spare.now) (c.args.words.now) (tells (goal.at.tell-requires-in-Lifted c).After-told-state) f; fits = step_fits (c.args.block.now) (c.args.spare.now) (sane-of (c.args.block.now) (c.args.spare.now) (c.args.words.now) (tells (goal.at.tell-requires-in-Lifted c).After-told-state) f) c.lay-after.ensures }
+    let f = c.in-Lifted.is in
+    record {
+      page_bound = page-of-lifted (c.args.block.now) (c.args.spare.now) (c.args.words.now)
+          (tells (goal.at.tell-requires-in-Lifted c).After-told-state) f;
+      fits = step_fits (c.args.block.now) (c.args.spare.now)
+          (sane-of (c.args.block.now) (c.args.spare.now) (c.args.words.now) (tells (goal.at.tell-requires-in-Lifted c).After-told-state)
+          f) c.lay-after.ensures;
+    }
 
 pub returns-in-Lifted : goal.returns-in-Lifted
 returns-in-Lifted c =

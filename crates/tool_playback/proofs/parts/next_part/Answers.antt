@@ -23,13 +23,22 @@ module _ (c : After-play_on-p) where
 
 pub losses-lost-requires : goal.losses-lost-requires
 losses-lost-requires c =
-    omega (arith, items-fit _ _ _ _ _ (recorded (goal.at.losses-lost-requires c).After-play_on-p) (plays (goal.at.losses-lost-requires c).After-play_on-p), c.play_on-p.auto.cells)
+    omega (
+      arith,
+      items-fit _ _ _ _ _ (recorded (goal.at.losses-lost-requires c).After-play_on-p)
+          (plays (goal.at.losses-lost-requires c).After-play_on-p),
+      c.play_on-p.auto.cells,
+    )
 
 pub returns-then-how : goal.returns-then-how
 returns-then-how c =
-    let t = items-told-as _ _ _ _ _ (recorded (goal.at.returns-then-how c).After-play_on-p) (plays (goal.at.returns-then-how c).After-play_on-p) c.losses-lost.ensures c.part_of.ensures in record { next_part = t; goes = goes_of _ _ _ _ _ t }
+    let t = items-told-as _ _ _ _ _ (recorded (goal.at.returns-then-how c).After-play_on-p)
+    (plays (goal.at.returns-then-how c).After-play_on-p) c.losses-lost.ensures c.part_of.ensures in
+    record { next_part = t; goes = goes_of _ _ _ _ _ t }
 
 -- those of a stream
 pub returns : goal.returns
 returns c =
-    let frames = rw c.sure_items-n.ensures at c.next_frames-p.ensures in let t = frames-told _ _ _ _ _ c.if-how.false frames c.part_of-2.ensures in record { next_part = t; goes = goes_of _ _ _ _ _ t }
+    let frames = rw c.sure_items-n.ensures at c.next_frames-p.ensures in
+    let t = frames-told _ _ _ _ _ c.if-how.false frames c.part_of-2.ensures in
+    record { next_part = t; goes = goes_of _ _ _ _ _ t }

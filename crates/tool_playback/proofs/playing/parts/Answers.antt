@@ -89,7 +89,11 @@ shape_of-master-then-not-is_well c = master-kept (goal.at.shape_of-master-then-n
 
 pub returns-then-not-is_well : goal.returns-then-not-is_well
 returns-then-not-is_well c =
-    let f = further (goal.at.returns-then-not-is_well c).After-next_part-p in record { tells_file = (λ e. absurd (false≢true (sym (c.if-not-is_well.true) ∙ c.is_well.ensures ∙ e))); within = record { some = f.0; ends = f.1; few = f.2; held = heard (goal.at.returns-then-not-is_well c).After-use_part-u } }
+    let f = further (goal.at.returns-then-not-is_well c).After-next_part-p in
+    record {
+      tells_file = (λ e. absurd (false≢true (sym (c.if-not-is_well.true) ∙ c.is_well.ensures ∙ e)));
+      within = record { some = f.0; ends = f.1; few = f.2; held = heard (goal.at.returns-then-not-is_well c).After-use_part-u };
+    }
 
 pub shape_of-page-then-not-p : goal.shape_of-page-then-not-p
 shape_of-page-then-not-p c = page-kept (goal.at.shape_of-page-then-not-p c).After-next_part-p

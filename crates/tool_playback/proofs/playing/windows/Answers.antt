@@ -44,7 +44,11 @@ shape_of-window-in-Some c = kept (goal.at.shape_of-window-in-Some c).After-windo
 
 pub returns-in-Some : goal.returns-in-Some
 returns-in-Some c =
-    let u = c.unread.ensures in record { tells_one = (λ z. absurd (false≢true (sym u.wrong ∙ z))); within = along-unread _ c.requires.1 c.loop-why.invariant.0 u c.loop-why.invariant.1 }
+    let u = c.unread.ensures in
+    record {
+      tells_one = (λ z. absurd (false≢true (sym u.wrong ∙ z)));
+      within = along-unread _ c.requires.1 c.loop-why.invariant.0 u c.loop-why.invariant.1;
+    }
 
 pub slice_bounds-play-end-in-loop-why : goal.slice_bounds-play-end-in-loop-why
 slice_bounds-play-end-in-loop-why c = sym (sized (goal.at.slice_bounds-play-end-in-loop-why c).After-window_at-got)
@@ -86,7 +90,11 @@ shape_of-window-then-t-eq0 c = kept (goal.at.shape_of-window-then-t-eq0 c).After
 
 pub returns-then-t-eq0 : goal.returns-then-t-eq0
 returns-then-t-eq0 c =
-    let u = c.unread-then-t-eq0.ensures in record { tells_one = (λ z. absurd (false≢true (sym u.wrong ∙ z))); within = along-unread _ c.requires.1 c.loop-why.invariant.0 u c.loop-why.invariant.1 }
+    let u = c.unread-then-t-eq0.ensures in
+    record {
+      tells_one = (λ z. absurd (false≢true (sym u.wrong ∙ z)));
+      within = along-unread _ c.requires.1 c.loop-why.invariant.0 u c.loop-why.invariant.1;
+    }
 
 pub loop-why-smaller : goal.loop-why-smaller
 loop-why-smaller c =
@@ -98,7 +106,8 @@ loop-why-preserved c =
     let p = c.requires in
     let well = sym c.is_well.ensures ∙ c.if-not-is_well.false in
     rw c.behind-total.ensures (
-      along-turn _ p.1 c.loop-why.invariant.0 _ (omega (arith, inside (goal.at.loop-why-preserved c).After-window_at-got, p.0.0)) (c.play-t.ensures.tells_file well),
+      along-turn _ p.1 c.loop-why.invariant.0 _ (omega (arith, inside (goal.at.loop-why-preserved c).After-window_at-got, p.0.0))
+          (c.play-t.ensures.tells_file well),
       (within (goal.at.loop-why-preserved c).After-play-t).ends,
       kept (goal.at.loop-why-preserved c).After-window_at-got,
     )

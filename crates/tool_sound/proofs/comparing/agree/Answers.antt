@@ -28,4 +28,6 @@ loop-i-preserved c =
 
 pub returns : goal.returns
 returns c =
-    let s = c.args in let l = c.loop-i in record { value = sym (l.invariant.2 ∙ agree-first s.a.now s.b.now l.i c.loop-i-test.false); most = (omega arith, omega arith) }
+    let s = c.args in
+    let l = c.loop-i in
+    record { value = sym (l.invariant.2 ∙ agree-first s.a.now s.b.now l.i c.loop-i-test.false); most = (omega arith, omega arith) }

@@ -30,4 +30,11 @@ returns-in-114 c = rw c.in-114.is
 pub returns-in_default : goal.returns-in_default
 unfolding pack_letter
 returns-in_default c =
-    rw (ne_eqb c.args.letter 0x6C (omega arith), ne_eqb c.args.letter 0x77 (omega arith), ne_eqb c.args.letter 0x6E (omega arith), ne_eqb c.args.letter 0x73 (omega arith), ne_eqb c.args.letter 0x66 (omega arith), ne_eqb c.args.letter 0x72 (omega arith))
+    rw (
+      ne_eqb c.args.letter 0x6C (omega arith),
+      ne_eqb c.args.letter 0x77 (omega arith),
+      ne_eqb c.args.letter 0x6E (omega arith),
+      ne_eqb c.args.letter 0x73 (omega arith),
+      ne_eqb c.args.letter 0x66 (omega arith),
+      ne_eqb c.args.letter 0x72 (omega arith),
+    )

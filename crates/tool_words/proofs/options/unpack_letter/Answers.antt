@@ -30,4 +30,11 @@ returns-in-103 c = rw c.in-103.is
 pub returns-in_default : goal.returns-in_default
 unfolding unpack_letter
 returns-in_default c =
-    rw (ne_eqb c.args.letter 0x6C (omega arith), ne_eqb c.args.letter 0x77 (omega arith), ne_eqb c.args.letter 0x73 (omega arith), ne_eqb c.args.letter 0x63 (omega arith), ne_eqb c.args.letter 0x76 (omega arith), ne_eqb c.args.letter 0x67 (omega arith))
+    rw (
+      ne_eqb c.args.letter 0x6C (omega arith),
+      ne_eqb c.args.letter 0x77 (omega arith),
+      ne_eqb c.args.letter 0x73 (omega arith),
+      ne_eqb c.args.letter 0x63 (omega arith),
+      ne_eqb c.args.letter 0x76 (omega arith),
+      ne_eqb c.args.letter 0x67 (omega arith),
+    )

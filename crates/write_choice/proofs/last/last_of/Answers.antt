@@ -17,7 +17,8 @@ size c = length-take-le c.args.n c.args.samples.now c.requires.0.long
 pub returns-then-not-holds : goal.returns-then-not-holds
 returns-then-not-holds c =
     let off = ap (λ (h : Bool). h && applies c.args.mask 11 (take c.args.n c.args.samples.now)) (sym c.holds.ensures ∙ c.if-not-holds.true) in
-    last-plain c.args.mask c.args.set (take c.args.n c.args.samples.now) (size (goal.at.returns-then-not-holds c).Start) c.requires.0.few c.uncompressed_of-uncompressed.ensures off 0
+    last-plain c.args.mask c.args.set (take c.args.n c.args.samples.now) (size (goal.at.returns-then-not-holds c).Start)
+    c.requires.0.few c.uncompressed_of-uncompressed.ensures off 0
 
 pub row_of-row-requires : goal.row_of-row-requires
 row_of-row-requires c = (c.requires.0, mask-seven _ c.requires.1)
@@ -31,5 +32,6 @@ better-eleven-requires c = (
 pub returns : goal.returns
 returns c =
     let on = sym c.holds.ensures ∙ c.if-not-holds.false in
-    last_row c.args.mask c.args.set (take c.args.n c.args.samples.now) (size (goal.at.returns c).Start) c.requires.0.few c.uncompressed_of-uncompressed.ensures on c.row_of-row.ensures
+    last_row c.args.mask c.args.set (take c.args.n c.args.samples.now) (size (goal.at.returns c).Start) c.requires.0.few
+    c.uncompressed_of-uncompressed.ensures on c.row_of-row.ensures
     c.row_offer-offer.ensures.0 c.better-eleven.ensures

@@ -21,7 +21,19 @@ returns-then-not-holds c =
 
 pub near_of-offered-requires : goal.near_of-offered-requires
 near_of-offered-requires c =
-    let near = c.requires.left.1 in record { frame_in = (c.requires.frame_in.0, (c.requires.frame_in.1, omega (arith, near.long, size (goal.at.near_of-offered-requires c).Start))); samples_value = near.close; a_len = c.requires.a_len }
+    let near = c.requires.left.1 in
+    record {
+      frame_in = (
+        c.requires.frame_in.0,
+        (
+          c.requires.frame_in.1,
+          omega
+              (arith, near.long, size (goal.at.near_of-offered-requires c).Start),
+        ),
+      );
+      samples_value = near.close;
+      a_len = c.requires.a_len;
+    }
 
 -- what was offered, as it was told apart
 module _ (c : After-near_of-offered) where

@@ -20,7 +20,12 @@ pub returns-then-is_for : goal.returns-then-is_for
 returns-then-is_for c = rw (plus (goal.at.returns-then-is_for c).After-is_for ∙ c.if-is_for.true)
 
 pub returns-then-is_for-2 : goal.returns-then-is_for-2
-returns-then-is_for-2 c = rw (plus (goal.at.returns-then-is_for-2 c).After-is_for ∙ c.if-is_for.false, minus (goal.at.returns-then-is_for-2 c).After-is_for-2 ∙ c.if-is_for-2.true)
+returns-then-is_for-2 c =
+    rw (
+      plus (goal.at.returns-then-is_for-2 c).After-is_for ∙ c.if-is_for.false,
+      minus
+          (goal.at.returns-then-is_for-2 c).After-is_for-2 ∙ c.if-is_for-2.true,
+    )
 
 pub returns-then-holds : goal.returns-then-holds
 returns-then-holds c =

@@ -41,14 +41,23 @@ overflow_sub-plus c = fits c
 pub returns-then-binary_at_once : goal.returns-then-binary_at_once
 returns-then-binary_at_once c =
     let pre = c.requires in
-    let five = binary-settled c.args.mask (take c.args.n c.args.samples.now) (size (goal.at.returns-then-binary_at_once c).After-count_of-minus) pre.frame_in.0.whole (are (goal.at.returns-then-binary_at_once c).After-count_of-minus).plus (are (goal.at.returns-then-binary_at_once c).After-count_of-minus).minus
+    let five = binary-settled c.args.mask (take c.args.n c.args.samples.now)
+    (size (goal.at.returns-then-binary_at_once c).After-count_of-minus) pre.frame_in.0.whole
+    (are (goal.at.returns-then-binary_at_once c).After-count_of-minus).plus
+    (are (goal.at.returns-then-binary_at_once c).After-count_of-minus).minus
     (omega (arith, fits (goal.at.returns-then-binary_at_once c).After-count_of-minus)) c.args.set (mask-seven _ pre.frame_in.1) pre.left.1 pre.frame_in.0.few
     c.binary_at_once.ensures c.if-binary_at_once.true in
-    binary-planned (size (goal.at.returns-then-binary_at_once c).After-count_of-minus) pre.frame_in.0.few (pre.left.0.later ∙ five) c.binary_bits-bits.ensures pre.row_is
+    binary-planned (size (goal.at.returns-then-binary_at_once c).After-count_of-minus) pre.frame_in.0.few (pre.left.0.later ∙ five)
+    c.binary_bits-bits.ensures pre.row_is
 
 pub rice_of-rice-requires : goal.rice_of-rice-requires
 rice_of-rice-requires c =
-    let pre = c.requires in record { n_bound = (pre.frame_in.0.few, (mask-seven _ pre.frame_in.1, pre.row_is.size)); by_index = pre.row_is.small; runs_len = pre.runs_len }
+    let pre = c.requires in
+    record {
+      n_bound = (pre.frame_in.0.few, (mask-seven _ pre.frame_in.1, pre.row_is.size));
+      by_index = pre.row_is.small;
+      runs_len = pre.runs_len;
+    }
 
 module _ (c : After-rice_of-rice) where
   abbrev frame' : List ℕ
@@ -83,6 +92,7 @@ pub returns : goal.returns
 returns c =
     let pre = c.requires in
     rw c.zeros_by.ensures
-    (zeros-planned (mask-seven _ pre.frame_in.1) pre.left.1 (size (goal.at.returns c).After-count_of-minus) pre.frame_in.0.few pre.left.0.later (rice (goal.at.returns c).After-rice_of-rice)
+    (zeros-planned (mask-seven _ pre.frame_in.1) pre.left.1 (size (goal.at.returns c).After-count_of-minus) pre.frame_in.0.few
+    pre.left.0.later (rice (goal.at.returns c).After-rice_of-rice)
     c.uncompressed_of-uncompressed.ensures c.holds.ensures c.better-six.ensures c.holds-2.ensures
     c.binary_bits-bits.ensures c.better-five.ensures pre.row_is)

@@ -77,23 +77,34 @@ six c = omega arith
 
 pub put_groups-requires : goal.put_groups-requires
 unfolding group_of bits_for
-put_groups-requires c = let r = asked (goal.at.put_groups-requires c).After-digits_of {g = 1} {w = 1} c.in-2.is refl refl in record { packs = r.0; by_index = r.1.0; able = r.1.1 }
+put_groups-requires c =
+    let r = asked (goal.at.put_groups-requires c).After-digits_of {g = 1} {w = 1} c.in-2.is refl refl in
+    record { packs = r.0; by_index = r.1.0; able = r.1.1 }
 
 pub put_groups-requires-in-3 : goal.put_groups-requires-in-3
 unfolding group_of bits_for
-put_groups-requires-in-3 c = let r = asked (goal.at.put_groups-requires-in-3 c).After-digits_of {g = 5} {w = 8} c.in-3.is refl refl in record { packs = r.0; by_index = r.1.0; able = r.1.1 }
+put_groups-requires-in-3 c =
+    let r = asked (goal.at.put_groups-requires-in-3 c).After-digits_of {g = 5} {w = 8} c.in-3.is refl refl in
+    record { packs = r.0; by_index = r.1.0; able = r.1.1 }
 
 pub put_groups-requires-in-4 : goal.put_groups-requires-in-4
 unfolding group_of bits_for
-put_groups-requires-in-4 c = let r = asked (goal.at.put_groups-requires-in-4 c).After-digits_of {g = 1} {w = 2} c.in-4.is refl refl in record { packs = r.0; by_index = r.1.0; able = r.1.1 }
+put_groups-requires-in-4 c =
+    let r = asked (goal.at.put_groups-requires-in-4 c).After-digits_of {g = 1} {w = 2} c.in-4.is refl refl in
+    record { packs = r.0; by_index = r.1.0; able = r.1.1 }
 
 pub put_groups-requires-in-5 : goal.put_groups-requires-in-5
 unfolding group_of bits_for
-put_groups-requires-in-5 c = let r = asked (goal.at.put_groups-requires-in-5 c).After-digits_of {g = 5} {w = 12} c.in-5.is refl refl in record { packs = r.0; by_index = r.1.0; able = r.1.1 }
+put_groups-requires-in-5 c =
+    let r = asked (goal.at.put_groups-requires-in-5 c).After-digits_of {g = 5} {w = 12} c.in-5.is refl refl in
+    record { packs = r.0; by_index = r.1.0; able = r.1.1 }
 
 pub put_groups-requires-in_default : goal.put_groups-requires-in_default
 unfolding group_of bits_for
-put_groups-requires-in_default c = let r = asked (goal.at.put_groups-requires-in_default c).After-digits_of {g = 5} {w = 13} (six (goal.at.put_groups-requires-in_default c).In_default) refl refl in record { packs = r.0; by_index = r.1.0; able = r.1.1 }
+put_groups-requires-in_default c =
+    let r = asked (goal.at.put_groups-requires-in_default c).After-digits_of {g = 5} {w = 13}
+    (six (goal.at.put_groups-requires-in_default c).In_default) refl refl in
+    record { packs = r.0; by_index = r.1.0; able = r.1.1 }
 
 pub returns-in-2 : goal.returns-in-2
 unfolding group_of bits_for
@@ -118,4 +129,5 @@ returns-in-5 c =
 pub returns-in_default : goal.returns-in_default
 unfolding group_of bits_for
 returns-in_default c =
-    done (goal.at.returns-in_default c).After-digits_of {g = 5} {w = 13} (six (goal.at.returns-in_default c).In_default) refl refl c.put_groups-in_default.ensures
+    done (goal.at.returns-in_default c).After-digits_of {g = 5} {w = 13} (six (goal.at.returns-in_default c).In_default) refl refl
+    c.put_groups-in_default.ensures

@@ -13,12 +13,20 @@ loop-from-init c = putting-none _ _ c.requires.packs.0 (length-take-le c.args.n 
 
 pub group_of-v-requires : goal.group_of-v-requires
 group_of-v-requires c =
-    let t = c.loop-from.invariant in let f = group-fits t.more _ c.args.g c.args.n t.left (omega arith) in let p = c.requires.packs.0 in record { g_bound = (f, c.requires.packs.1, c.requires.packs.2, p.five, p.some, p.few); by_index = c.requires.by_index }
+    let t = c.loop-from.invariant in
+    let f = group-fits t.more _ c.args.g c.args.n t.left (omega arith) in
+    let p = c.requires.packs.0 in
+    record { g_bound = (f, c.requires.packs.1, c.requires.packs.2, p.five, p.some, p.few); by_index = c.requires.by_index }
 
 pub put-q-requires : goal.put-q-requires
 put-q-requires c =
-    let p = c.requires.packs.0 in let t = c.loop-from.invariant in let f = group-fits t.more _ c.args.g c.args.n t.left (omega arith) in let all = map same (take c.args.n c.args.digits.now) in let b = group-bits p same (take c.args.n c.args.digits.now) c.loop-from.from
-    (below_all all c.requires.by_index) (rw (length-take-le c.args.n c.args.digits.now c.requires.packs.1) f) in record { able = putting-able p t c.requires.able (omega arith); n_bound = (omega (arith, p.bits), rw c.group_of-v.ensures b) }
+    let p = c.requires.packs.0 in
+    let t = c.loop-from.invariant in
+    let f = group-fits t.more _ c.args.g c.args.n t.left (omega arith) in
+    let all = map same (take c.args.n c.args.digits.now) in
+    let b = group-bits p same (take c.args.n c.args.digits.now) c.loop-from.from
+    (below_all all c.requires.by_index) (rw (length-take-le c.args.n c.args.digits.now c.requires.packs.1) f) in record
+    { able = putting-able p t c.requires.able (omega arith); n_bound = (omega (arith, p.bits), rw c.group_of-v.ensures b) }
 
 pub overflow_add-from : goal.overflow_add-from
 overflow_add-from c =
