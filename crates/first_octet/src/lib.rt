@@ -8,6 +8,7 @@ ghost use Rattle.rules.specs.First.{first_octet, base_of, octet_for};
 ghost use Rattle.first_octet.specs.Answers.{as_first, entry_tells, eight_from};
 
 // What a first octet begins: nothing, a pad, a tool's frame of so many samples, or one of tool 6 or 8.
+// No Option or Result: its four cases are those of the paper's `First`.
 #[derive(Drop)]
 pub enum Begins {
     Unassigned,
@@ -54,6 +55,7 @@ pub const FIRST: [u8; 256] = [
 ];
 
 // The table's entry for a first octet.
+// Beside `entry`, which is the same as one load: this is the table as document 01 has it.
 pub fn listed(o: u8) -> u8
     ensures { entry_tells o result ≡ first_octet o }
 {
@@ -110,6 +112,7 @@ pub fn entry(o: u8) -> u8
 }
 
 // What a first octet begins.
+// Numbers widen by `as`: a `from` would be a call amid each of them, with a step more to prove.
 pub fn first_octet(o: u8) -> Begins
     ensures { as_first o result ≡ first_octet o }
 {
@@ -123,25 +126,21 @@ pub fn first_octet(o: u8) -> Begins
     let t = (e >> 4) as u32;
     let n = 40 * (e % 16) as usize;
     if t == 6 {
-        return Begins::SixOrEight(n);
+        Begins::SixOrEight(n)
+    } else {
+        Begins::Tool(t, n)
     }
-    Begins::Tool(t, n)
 }
 
 // "Tool t (1 to 7) adds 2^(t-1)"; tool 11 adds 128 (document 02, R-14).
 pub fn holds(set: u32, t: u32) -> bool
     ensures { result ≡ tools.holds set t }
 {
-    if t == 11 {
-        return (set >> 7) % 2 == 1;
+    match t {
+        1..=7 => (set >> (t - 1)) % 2 == 1,
+        11 => (set >> 7) % 2 == 1,
+        _ => false,
     }
-    if t < 1 {
-        return false;
-    }
-    if 7 < t {
-        return false;
-    }
-    (set >> (t - 1)) % 2 == 1
 }
 
 // The length code's octet.
@@ -164,10 +163,10 @@ pub fn octet_for(t: u32, n: usize) -> u8
 {
     let base = base_of(n);
     if t != 7 {
-        return base + (t - 1) as u8;
+        base + (t - 1) as u8
+    } else if n < 240 {
+        base + 6
+    } else {
+        base + 5
     }
-    if n < 240 {
-        return base + 6;
-    }
-    base + 5
 }

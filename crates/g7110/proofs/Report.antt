@@ -13,12 +13,10 @@ use Rattle.recording_next.specs.Next.{Piece, Tells}
 use Rattle.recording.specs.declared.FileWritten.{FileWritten}
 use Rattle.recording.specs.Files.{Filed}
 use Rattle.recording.specs.Calls as recording
-use Rattle.store.specs.declared.Answer.{Answer}
 use Rattle.store.specs.Store.{Outcome}
 use Rattle.store.specs.Calls as store
 use Rattle.reasons.specs.declared.Reasons.{Reasons}
-use Rattle.reasons.specs.declared.Why.{Why}
-use Rattle.reasons.specs.declared.Why.TheVariants.{Told, Refused}
+use Rattle.std.proofs.Common.{Result, Ok, Err}
 use Rattle.reasons.specs.Calls.{Prints}
 use Rattle.g7110.specs.Boundary.{WriteReported, WhyReported}
 use Rattle.g7110.specs.Telling.{PieceReported}
@@ -54,7 +52,7 @@ file-write-reported f t e =
     record { number = e ∙ ap recording.number_of t.end; report = then t.octets refl; lent = t.lent }
 
 -- a store, as a call that changes it says
-pub put-reported : (o : Outcome) {a : Answer} {b t b' t' : List ℕ} {first second r : ℕ} → store.Says o b t b' t' a → first ≡ store.first_of a
+pub put-reported : (o : Outcome) {a : store.Answer} {b t b' t' : List ℕ} {first second r : ℕ} → store.Says o b t b' t' a → first ≡ store.first_of a
     → second ≡ store.second_of a → r ≡ store.number_of a → ChangeReported o b t b' t' (first ∷ second ∷ []) r
 put-reported o t x y e =
     record {
@@ -65,10 +63,10 @@ put-reported o t x y e =
     }
 
 -- why a tool wins: refused, or told
-pub why-refused : {why : Why} {w : Refusal} {text : List ℕ} {r : ℕ} → why ≡ Refused w → r ≡ refusal_number w
+pub why-refused : {why : Result Reasons Refusal} {w : Refusal} {text : List ℕ} {r : ℕ} → why ≡ Err w → r ≡ refusal_number w
     → WhyReported why text text (0 ∷ []) r
 why-refused e n = record { number = rw e n; report = rw e; lent = rw e }
 
-pub why-told : {why : Why} (r : Reasons) {text text' : List ℕ} {n : ℕ} → why ≡ Told r → Prints r text text' n
+pub why-told : {why : Result Reasons Refusal} (r : Reasons) {text text' : List ℕ} {n : ℕ} → why ≡ Ok r → Prints r text text' n
     → WhyReported why text text' (n ∷ []) 0
 why-told r e p = record { number = rw e; report = rw e (ap (λ (k : ℕ). k ∷ []) p.octets); lent = rw e p.lent }

@@ -6,7 +6,9 @@ use Rattle.rules.specs.Frame.{Found}
 use Rattle.rules.specs.Bits.{octets_for, pack}
 use Rattle.rules.specs.Chooses.{Write}
 use Rattle.rules.specs.Walk.{Walked, octets_kept, samples_kept}
-use Rattle.reasons.specs.declared.Why.{Why}
+use Rattle.std.specs.declared.result.Result.{Result}
+use Rattle.rules.specs.declared.Refusal.{Refusal}
+use Rattle.reasons.specs.declared.Reasons.{Reasons}
 use Rattle.reasons.specs.Calls.{why_ending, why_text}
 use Rattle.linear.specs.Calls.{judged, after}
 use Rattle.rules.specs.Calls.{read_end, read_samples, read_octets, read_bits, read_tool, read_bit, write_end, written_bits, write_tool, at_start}
@@ -32,7 +34,7 @@ pub record WriteReported (written : Write) (out out' three : List ℕ) (r : ℕ)
   pub lent : out' ≡ at_start (pack (written_bits written)) out
 
 -- why a tool wins: the number; the octets of text; the text at the start of what is lent, the rest as lent
-pub record WhyReported (why : Why) (text text' one : List ℕ) (r : ℕ) : Type 0 where
+pub record WhyReported (why : Result Reasons Refusal) (text text' one : List ℕ) (r : ℕ) : Type 0 where
   pub number : r ≡ why_ending why
   pub report : one ≡ length (why_text why) ∷ []
   pub lent : text' ≡ at_start (why_text why) text

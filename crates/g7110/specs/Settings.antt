@@ -1,6 +1,7 @@
 -- What the calls over a box's settings report (document 02, R-13): the number, and one number more.
 use Rattle.std.specs.Prelude.{ℕ, ◌≡◌, List, [], ◌∷◌, ◌++◌, length, drop}
-use Rattle.settings.specs.declared.Kept.{Kept}
+use Rattle.std.specs.declared.option.Option.{Option}
+use Rattle.settings.specs.declared.Settings.{Settings}
 use Rattle.settings.specs.Lines.{settings_in}
 use Rattle.settings.specs.Revisions.{Outcome, save_in, look_up, back_to}
 use Rattle.settings.specs.State.{box_of}
@@ -21,7 +22,7 @@ abbrev pub BackReported : ℕ → List ℕ → List ℕ → List ℕ → ℕ →
 BackReported n cells cells' one r = AddReported (back_to (box_of cells) (look_up n (box_of cells).revisions)) cells cells' one r
 
 -- the number and the octets of text; the text at the start of what is lent, the rest as lent
-pub record TextReported (k : Kept) (text text' one : List ℕ) (r : ℕ) : Type 0 where
+pub record TextReported (k : Option Settings) (text text' one : List ℕ) (r : ℕ) : Type 0 where
   pub number : r ≡ number_of (printed k)
   pub report : one ≡ told_of (printed k) ∷ []
   pub lent : text' ≡ text_of k ++ drop (length (text_of k)) text

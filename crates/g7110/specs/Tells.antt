@@ -5,7 +5,7 @@ use Rattle.store_tell.specs.declared.Entry.{Entry}
 use Rattle.store_tell.specs.declared.Sums.{Sums}
 use Rattle.store_tell.specs.Calls.{told_number_of, summed_number_of, entry_in, sums_in, info_of, at_of, totals_for}
 use Rattle.settings.specs.declared.Settings.{Settings}
-use Rattle.settings.specs.declared.Kept.{Kept}
+use Rattle.std.specs.declared.option.Option.{Option}
 use Rattle.settings.specs.Tells.{get_number_of, values_in}
 use Rattle.mending.specs.Mend.{Mend}
 use Rattle.mending.specs.Calls.{mend_number_of, mend_end, result_of, frames_kept, kept_of, filled_of, stop_of, bit_of}
@@ -35,7 +35,7 @@ pub record TotalsReported (b t four : List ℕ) (r : ℕ) : Type 0 where
 abbrev pub values_of : Settings → List ℕ
 values_of v = v.law ∷ v.set ∷ v.block ∷ v.greeting ∷ []
 
-pub record ValuesReported (k : Kept) (four : List ℕ) (r : ℕ) : Type 0 where
+pub record ValuesReported (k : Option Settings) (four : List ℕ) (r : ℕ) : Type 0 where
   pub ending : r ≡ get_number_of k
   pub report : four ≡ values_of (values_in k)
 

@@ -29,7 +29,7 @@ ghost use Rattle.recording.specs.Remembered.{headed};
 ghost use Rattle.g7110.specs.Telling.{version, CheckReported, HeadReported, FileHeadReported};
 ghost use Rattle.g7110.specs.Telling.{FileNextReported, ToMasterReported, FromMasterReported};
 
-use reasons::Why;
+use rules::Numbered;
 
 // Reading one frame: the number, and in the report samples, octets used, bits, tool and the refusal's bit.
 #[unsafe(no_mangle)]
@@ -51,8 +51,7 @@ pub extern "C" fn g7110_read(
         a.tool as u64,
         a.bit as u64,
     ];
-    let end = a.end;
-    rules::number_of(end)
+    rules::number_of(a.end)
 }
 
 // Walking a stream: the number, and in the report frames, octets and samples kept, the tool that TOOL gives, and the refusal's bit.
@@ -68,8 +67,7 @@ pub extern "C" fn g7110_walk(
         out.old out.new report.new result }
 {
     let a = walk::walk(octets, law, set, out);
-    let end = a.end;
-    let tool = rules::tool_of(end);
+    let tool = rules::tool_of(a.end);
     *report = [
         a.frames as u64,
         a.octets as u64,
@@ -77,7 +75,7 @@ pub extern "C" fn g7110_walk(
         tool as u64,
         a.bit as u64,
     ];
-    rules::number_of(end)
+    rules::number_of(a.end)
 }
 
 // Writing one frame: the number, and in the report octets, bits and tool.
@@ -94,8 +92,7 @@ pub extern "C" fn g7110_write(
 {
     let a = writer::write_samples(samples, law, set, out);
     *report = [a.octets as u64, a.bits as u64, a.tool as u64];
-    let end = a.end;
-    rules::number_of(end)
+    rules::number_of(a.end)
 }
 
 // Why the writer takes its tool: the number, and in the report the octets of text.
@@ -111,11 +108,11 @@ pub extern "C" fn g7110_why(
         text.old text.new report.new result }
 {
     match reasoning::why_samples(samples, law, set) {
-        Why::Refused(why) => {
+        Err(why) => {
             *report = [0];
-            rules::refusal_number(why)
+            why.number()
         }
-        Why::Told(r) => {
+        Ok(r) => {
             let octets = reasons::text_of(r, text);
             *report = [octets as u64];
             0
@@ -129,8 +126,7 @@ pub extern "C" fn g7110_to_linear(samples: &[u8], law: u32, out: &mut [i16]) -> 
     ensures { Converted law (length samples.now) (map (to_pcm law) samples.now)
         out.old out.new result }
 {
-    let end = linear::to_linear(samples, law, out);
-    rules::number_of(end)
+    rules::number_of(linear::to_linear(samples, law, out))
 }
 
 // A frame of linear values to octets.
@@ -139,8 +135,7 @@ pub extern "C" fn g7110_from_linear(linear: &[i16], law: u32, out: &mut [u8]) ->
     ensures { Converted law (length linear.now) (map (from_pcm law) linear.now)
         out.old out.new result }
 {
-    let end = linear::from_linear(linear, law, out);
-    rules::number_of(end)
+    rules::number_of(linear::from_linear(linear, law, out))
 }
 
 // Saving a store's table: the number, and in the report the octets of text.
@@ -154,9 +149,9 @@ pub extern "C" fn g7110_store_save(
     ensures { SavedReported block.now table.now out.old out.new report.new result }
 {
     let a = store_save::save(block, table, out);
-    let octets = store::first_of(a);
+    let (octets, _) = a.unwrap_or((0, 0));
     *report = [octets as u64];
-    store::number_of(a)
+    rules::number_of(a)
 }
 
 // Loading a table's text: the number.
@@ -164,8 +159,7 @@ pub extern "C" fn g7110_store_save(
 pub extern "C" fn g7110_store_load(text: &[u8], block: &[u8], table: &mut [u32]) -> u32
     ensures { LoadReported text.now block.now table.old table.new result }
 {
-    let a = store_save::load(text, block, table);
-    store::number_of(a)
+    rules::number_of(store_save::load(text, block, table))
 }
 
 // Saving settings: the number, and in the report the new revision.
@@ -178,9 +172,8 @@ pub extern "C" fn g7110_settings_save(
     ensures { SaveReported text.now state.old state.new report.new result }
 {
     let a = settings::save(state, text);
-    let revision = settings::told_of(a);
-    *report = [revision as u64];
-    settings::number_of(a)
+    *report = [u64::from(a.unwrap_or(0))];
+    rules::number_of(a)
 }
 
 // Going back to a kept revision: the number, and in the report the new revision.
@@ -193,9 +186,8 @@ pub extern "C" fn g7110_settings_back(
     ensures { BackReported revision state.old state.new report.new result }
 {
     let a = settings::back(state, revision);
-    let next = settings::told_of(a);
-    *report = [next as u64];
-    settings::number_of(a)
+    *report = [u64::from(a.unwrap_or(0))];
+    rules::number_of(a)
 }
 
 // A kept revision's text: the number, and in the report its octets.
@@ -209,9 +201,8 @@ pub extern "C" fn g7110_settings_read(
     ensures { RevisionReported revision state.now text.old text.new report.new result }
 {
     let a = settings::read(state, revision, text);
-    let octets = settings::told_of(a);
-    *report = [octets as u64];
-    settings::number_of(a)
+    *report = [u64::from(a.unwrap_or(0))];
+    rules::number_of(a)
 }
 
 // The wipe for the next tenant: never refused.
@@ -242,8 +233,7 @@ pub extern "C" fn g7110_mend(
         a.kept as u64,
         a.filled as u64,
     ];
-    let end = a.end;
-    mending::mend_number(end)
+    rules::number_of(a.end)
 }
 
 // How many cells a store's table needs for a block of a size: its greetings, their notes and all marks.
@@ -269,10 +259,9 @@ pub extern "C" fn g7110_store_put(
         block.new table.new report.new result }
 {
     let a = store::put(block, table, law, number, octets);
-    let start = store::first_of(a);
-    let moved = store::second_of(a);
+    let (start, moved) = a.unwrap_or((0, 0));
     *report = [start as u64, moved as u64];
-    store::number_of(a)
+    rules::number_of(a)
 }
 
 // Getting one: the number, and in the report its start and octets.
@@ -286,10 +275,9 @@ pub extern "C" fn g7110_store_get(
     ensures { GetReported number block.now table.now report.new result }
 {
     let a = store::get(block, table, number);
-    let start = store::first_of(a);
-    let octets = store::second_of(a);
+    let (start, octets) = a.unwrap_or((0, 0));
     *report = [start as u64, octets as u64];
-    store::number_of(a)
+    rules::number_of(a)
 }
 
 // Deleting one: the number.
@@ -297,8 +285,7 @@ pub extern "C" fn g7110_store_get(
 pub extern "C" fn g7110_store_delete(block: &[u8], table: &mut [u32], number: u32) -> u32
     ensures { DeleteReported number block.now table.old table.new result }
 {
-    let a = store::delete(block, table, number);
-    store::number_of(a)
+    rules::number_of(store::delete(block, table, number))
 }
 
 // Jumping to a sample of one: the number, and in the report the frame that holds it, its octet place, the sample's place in it, and the
@@ -321,7 +308,7 @@ pub extern "C" fn g7110_store_jump(
         t.inside as u64,
         t.read as u64,
     ];
-    store_jump::jumping::number_of(a)
+    rules::number_of(a)
 }
 
 // Reading a recording file: the number, and in the report law, items, octets after the heading, samples, the tool that TOOL gives, and the
@@ -338,8 +325,7 @@ pub extern "C" fn g7110_file_read(
         out.old out.new items.old items.new report.new result }
 {
     let a = recording_read::read_file(octets, set, out, items);
-    let end = a.end;
-    let tool = recording::tool_of(end);
+    let tool = recording::tool_of(a.end);
     *report = [
         a.law as u64,
         a.items as u64,
@@ -348,7 +334,7 @@ pub extern "C" fn g7110_file_read(
         tool as u64,
         a.bit as u64,
     ];
-    recording::number_of(end)
+    rules::number_of(a.end)
 }
 
 // Writing one: the number, and in the report the octets of the file.
@@ -366,8 +352,7 @@ pub extern "C" fn g7110_file_write(
 {
     let a = recording_write::write_file(samples, items, law, set, out);
     *report = [a.octets as u64];
-    let end = a.end;
-    recording::number_of(end)
+    rules::number_of(a.end)
 }
 
 // What a put would answer: the number, and in the report the start and the octets moved. Nothing is changed.
@@ -383,10 +368,9 @@ pub extern "C" fn g7110_store_try(
     ensures { TryReported law number octets.now block.now table.now report.new result }
 {
     let a = store_moves::calls::try_put(block, table, law, number, octets);
-    let start = store::first_of(a);
-    let moved = store::second_of(a);
+    let (start, moved) = a.unwrap_or((0, 0));
     *report = [start as u64, moved as u64];
-    store::number_of(a)
+    rules::number_of(a)
 }
 
 // The next move of closing up: the number, and in the report the greeting's number, where it lies, where it goes, and its octets.
@@ -402,7 +386,7 @@ pub extern "C" fn g7110_store_next(block: &[u8], table: &[u32], report: &mut [u6
         hop.to as u64,
         hop.octets as u64,
     ];
-    store_moves::calls::told_number(t)
+    rules::number_of(t)
 }
 
 // The table with the greeting of the next move at its new place: the number.
@@ -410,8 +394,7 @@ pub extern "C" fn g7110_store_next(block: &[u8], table: &[u32], report: &mut [u6
 pub extern "C" fn g7110_store_moved(block: &[u8], table: &mut [u32], number: u32, to: u64) -> u32
     ensures { MovedReported number to block.now table.old table.new result }
 {
-    let c = store_moves::calls::moved(block, table, number, to);
-    store_moves::calls::change_number(c)
+    rules::number_of(store_moves::calls::moved(block, table, number, to))
 }
 
 // Another number for a greeting: the number.
@@ -419,8 +402,7 @@ pub extern "C" fn g7110_store_moved(block: &[u8], table: &mut [u32], number: u32
 pub extern "C" fn g7110_store_renumber(block: &[u8], table: &mut [u32], number: u32, to: u32) -> u32
     ensures { RenumberReported number to block.now table.old table.new result }
 {
-    let c = store_moves::calls::renumber(block, table, number, to);
-    store_moves::calls::change_number(c)
+    rules::number_of(store_moves::calls::renumber(block, table, number, to))
 }
 
 // One chunk of the move that the record tells of, and in `next` the record after it: the number.
@@ -451,8 +433,7 @@ pub extern "C" fn g7110_check(octets: &[u8], law: u32, set: u32, report: &mut [u
     ensures { CheckReported (check_of octets.now law set) report.new result }
 {
     let a = walk_check::check(octets, law, set);
-    let end = a.end;
-    let tool = rules::tool_of(end);
+    let tool = rules::tool_of(a.end);
     *report = [
         a.frames as u64,
         a.octets as u64,
@@ -460,7 +441,7 @@ pub extern "C" fn g7110_check(octets: &[u8], law: u32, set: u32, report: &mut [u
         tool as u64,
         a.bit as u64,
     ];
-    rules::number_of(end)
+    rules::number_of(a.end)
 }
 
 // What a frame's first octets tell: the number, and in the report its tool and samples.
@@ -470,8 +451,7 @@ pub extern "C" fn g7110_head(octets: &[u8], set: u32, report: &mut [u64; 2]) -> 
 {
     let a = read_head::head(octets, set);
     *report = [a.tool as u64, a.samples as u64];
-    let end = a.end;
-    rules::number_of(end)
+    rules::number_of(a.end)
 }
 
 // What a recording's heading tells: the number, and in the report its law and octets.
@@ -481,8 +461,7 @@ pub extern "C" fn g7110_file_head(octets: &[u8], report: &mut [u64; 2]) -> u32
 {
     let a = recording_next::file_head(octets);
     *report = [a.law as u64, a.octets as u64];
-    let end = a.end;
-    recording::number_of(end)
+    rules::number_of(a.end)
 }
 
 // One item of a recording at a place behind the heading: the number, and in the report kind, samples, octets, tool, the refusal's bit, and
@@ -507,8 +486,7 @@ pub extern "C" fn g7110_file_next(
         a.bit as u64,
         a.place as u64,
     ];
-    let end = a.end;
-    recording::number_of(end)
+    rules::number_of(a.end)
 }
 
 // A frame of octets to a master's values.
@@ -516,8 +494,7 @@ pub extern "C" fn g7110_file_next(
 pub extern "C" fn g7110_to_master(samples: &[u8], law: u32, out: &mut [i16]) -> u32
     ensures { ToMasterReported law samples.now out.old out.new result }
 {
-    let end = linear_masters::to_master(samples, law, out);
-    rules::number_of(end)
+    rules::number_of(linear_masters::to_master(samples, law, out))
 }
 
 // A master's values to a frame of octets.
@@ -525,8 +502,7 @@ pub extern "C" fn g7110_to_master(samples: &[u8], law: u32, out: &mut [i16]) -> 
 pub extern "C" fn g7110_from_master(master: &[i16], law: u32, out: &mut [u8]) -> u32
     ensures { FromMasterReported law master.now out.old out.new result }
 {
-    let end = linear_masters::from_master(master, law, out);
-    rules::number_of(end)
+    rules::number_of(linear_masters::from_master(master, law, out))
 }
 
 // A greeting by its number: the number, and in the report its start, octets, law, samples and how many marks it has.
@@ -548,7 +524,7 @@ pub extern "C" fn g7110_store_info(
         e.samples as u64,
         e.marks as u64,
     ];
-    store_tell::told_number(t)
+    rules::number_of(t)
 }
 
 // A greeting by its place in order of start: the number, and in the report its number, start, octets, law, samples and how many marks it
@@ -572,7 +548,7 @@ pub extern "C" fn g7110_store_at(
         e.samples as u64,
         e.marks as u64,
     ];
-    store_tell::told_number(t)
+    rules::number_of(t)
 }
 
 // All greetings together: the number, and in the report how many, the octets held, the octets free and the largest gap.
@@ -588,7 +564,7 @@ pub extern "C" fn g7110_store_totals(block: &[u8], table: &[u32], report: &mut [
         t.free as u64,
         t.gap as u64,
     ];
-    store_tell::summed_number(s)
+    rules::number_of(s)
 }
 
 // A kept revision's values: the number, and in the report law, set, block and greeting.
@@ -636,6 +612,5 @@ pub extern "C" fn g7110_mend_why(octets: &[u8], law: u32, total: u64, report: &m
         tool as u64,
         a.bit as u64,
     ];
-    let end = a.end;
-    mending::mend_number(end)
+    rules::number_of(a.end)
 }

@@ -26,9 +26,10 @@ pub fn sample_of(mask: u8, v: i8) -> u8
     ensures { result ≡ sample_of mask v }
 {
     if v < 0 {
-        return ((-1 - v) as u8) ^ mask;
+        ((-1 - v) as u8) ^ mask
+    } else {
+        128 + ((v as u8) ^ mask)
     }
-    128 + ((v as u8) ^ mask)
 }
 
 // "plus zero is 0"

@@ -2,7 +2,7 @@
 use Prim.Native.Nat.{ℕ}
 use mathlib.Core.Path.{◌≡◌, sym, ◌∙◌}
 use mathlib.Core.List.{List}
-use Rattle.rules.specs.declared.Ending.{Ending}
+use Rattle.rules.specs.Refusals.{Ending}
 use Rattle.linear.specs.Calls.{Converts}
 
 -- `ToLinear` and `FromLinear` are `Converts` of the frame's values

@@ -1,7 +1,7 @@
 -- A frame converted: the refusals in their order, what is left in the lent output, and the contract of each public call.
 use Rattle.std.specs.Prelude.{ℕ, ◌≡◌, ◌||◌, List, [], ◌∷◌, ◌++◌, map, eqb, leb, ℤ, length, drop}
-use Rattle.rules.specs.declared.Ending.{Ending}
-use Rattle.rules.specs.declared.Ending.TheVariants.{Done, Refused}
+use Rattle.rules.specs.Refusals.{Ending}
+use Rattle.std.specs.Prelude.{Ok, Err}
 use Rattle.rules.specs.declared.Refusal.TheVariants.{Room, Length, Law}
 use Rattle.rules.specs.Refusals.{Asked, ask, verdict}
 use Rattle.rules.specs.Tools.{is_law, is_length}
@@ -16,8 +16,8 @@ judged law n room = verdict (frame_asks law n room)
 
 -- what was lent, with the results at its start; "a refusal writes nothing"
 abbrev pub after : {A : Type 0} → Ending → List A → List A → List A
-after Done ys out = ys ++ drop (length ys) out
-after (Refused w) ys out = out
+after (Ok _) ys out = ys ++ drop (length ys) out
+after (Err w) ys out = out
 
 -- `out` is the output as lent, `out'` as the call leaves it; its length is the room
 pub record Converts {A : Type 0} (law n : ℕ) (ys out out' : List A) (r : Ending) : Type 0 where

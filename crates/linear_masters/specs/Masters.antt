@@ -1,8 +1,8 @@
 -- Linear masters of signed 16-bit values: "as to_linear and from_linear with the shift of the tools (3 for A, 2 for mu; arithmetic right on
 -- the way in, left on the way out)". 8 and 4 are what (6-2) and (6-4) of 001 divide by.
-use Rattle.std.specs.Prelude.{ℕ, cond, List, map, ◌++◌, eqb, ℤ, pos, ◌*ℤ◌, length, drop}
+use Rattle.std.specs.Prelude.{ℕ, cond, List, map, eqb, ℤ, pos, ◌*ℤ◌, length}
 use Rattle.std.specs.Int.Signed.{shr_z}
-use Rattle.rules.specs.declared.Ending.{Ending}
+use Rattle.rules.specs.Refusals.{Ending}
 use Rattle.linear.specs.Equations.{to_pcm, from_pcm}
 use Rattle.linear.specs.Calls.{Converts}
 
@@ -15,10 +15,6 @@ sample_for law v = from_pcm law (shr_z v (unit_of law))
 
 abbrev pub value_for : ℕ → ℕ → ℤ
 value_for law o = to_pcm law o *ℤ pos (unit_of law)
-
--- what a frame's values are, one after another, at the start of what is lent
-abbrev pub laid_over : {A B : Type 0} → (A → B) → List A → List B → List B
-laid_over f s out = map f s ++ drop (length s) out
 
 -- a frame of octets to a master's values, and back: "LAW, LENGTH, ROOM"
 abbrev pub ToMaster : ℕ → List ℕ → List ℤ → List ℤ → Ending → Type 0

@@ -10,22 +10,14 @@ use std::io;
 use std::io::{Print, Read};
 
 // The stream's lines, page by page.
-fn list_stream(
-    rt: HostRuntime,
-    stream: &[u8],
-    law: u32,
-    start: Stand,
-    text: &mut [u8],
-) -> io::Result<()>
+fn list_stream(rt: HostRuntime, stream: &[u8], start: Stand, text: &mut [u8]) -> io::Result<()>
     requires { (Stands stream.now start) × (320 ≤ length text.old) }
 {
-    let mut s = start;
-    while !s.ended {
-        let p = listing_pages::next_page(stream, law, s, text);
-        let to = p.to;
-        Print::write_all(&rt.stdout(), &text[..to])?;
-        let next = p.stand;
-        s = next;
+    let mut next = Some(start);
+    while let Some(s) = next {
+        let page = listing_pages::next_page(stream, s, text);
+        Print::write_all(&rt.stdout(), &text[..page.to])?;
+        next = page.next;
     }
     Ok(())
 }
@@ -34,17 +26,16 @@ fn list_stream(
 fn list(rt: HostRuntime, input: &[u8], text: &mut [u8]) -> io::Result<()>
     requires { 320 ≤ length text.old }
 {
-    let p = listing_pages::open_listing(input, text);
-    let to = p.to;
-    Print::write_all(&rt.stdout(), &text[..to])?;
-    let s = p.stand;
-    if s.ended {
-        return Ok(());
+    let page = listing_pages::open_listing(input, text);
+    Print::write_all(&rt.stdout(), &text[..page.to])?;
+    match page.next {
+        Some(start) => list_stream(rt, &input[1..], start, text),
+        None => Ok(()),
     }
-    list_stream(rt, &input[1..], p.law, s, text)
 }
 
 // Reads standard input until the octets lent are full or it ends.
+// A `while`: how many octets a read gives is known when it is done.
 fn read_full(rt: HostRuntime, input: &mut [u8]) -> io::Result<usize>
     ensures { IfOk result (λ n. n ≤ length input.new) }
 {

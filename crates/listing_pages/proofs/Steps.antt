@@ -2,12 +2,11 @@
 use Prim.Native.Nat.{ℕ, suc, ◌+◌, ◌*◌, ◌-◌, ◌≤◌, ◌<◌}
 use mathlib.Core.Path.{◌≡◌, refl, ap, ◌∙◌}
 use mathlib.Core.List.{List, ◌++◌, append_assoc, append-nil}
-use mathlib.Core.Bool.{false}
 use native.Mathlib.Omega.{arith}
 use native.Mathlib.Nat.{add-zero, add_assoc}
 use lib.ListN.{length, drop, length-append, length-drop}
-use Rattle.rules.specs.declared.Ending.{Ending}
-use Rattle.rules.specs.declared.Ending.TheVariants.{Done, Refused}
+use Rattle.rules.specs.Refusals.{Ending}
+use Rattle.std.proofs.Common.{Option, Ok, Err, Some}
 use Rattle.rules.specs.declared.Refusal.{Refusal}
 use Rattle.rules.specs.Refusals.{refusal_number}
 use Rattle.rules.specs.Reading.{Read, whole}
@@ -42,11 +41,11 @@ frame-told : (k at : ℕ) (next : ℕ → ℕ → List ℕ) {f : Found} {i : ℕ
     ≡ frame_line k at r.len r.tool r.octets r.bits ++ next r.octets r.len
 frame-told k at next t = rw (t.len, t.tool, t.octets, t.bits)
 
-module _ (stream : List ℕ) (law : ℕ) where
+module _ (stream : List ℕ) where
   -- neither frames nor room are short after a frame either
-  walk_step : (at : ℕ) {f : Found} {j : ℕ} → at < length stream → read_one (drop at stream) law listed_tools 320 ≡ whole f j
+  walk_step : (law at : ℕ) {f : Found} {j : ℕ} → at < length stream → read_one (drop at stream) law listed_tools 320 ≡ whole f j
       → walk_left stream law at ≡ before (record { place = at; found = f }) (walk_left stream law (at + octets_used f))
-  walk_step at {f} h e =
+  walk_step law at {f} h e =
       let n = length stream in
       let room = 320 * n in
       let u = read-uses (drop at stream) law listed_tools 320 e in
@@ -59,16 +58,19 @@ module _ (stream : List ℕ) (law : ℕ) where
       ∙ walk-roomy stream law listed_tools (suc n) next left room (omega (arith, u.0, s)) (omega (arith, u.0, s)))
 
   -- the lines left: at the stream's end, where a frame is refused, and where one is read
-  module _ (s : Stand) (g : s.ended ≡ false) where
-    pub left_end : length stream ≤ s.at → lines_left stream law s ≡ stop_line 0 s.at 0 0 ++ samples_line s.samples
+  module _ (s : Stand) where
+    abbrev law : ℕ
+    law = s.law
+
+    pub left_end : length stream ≤ s.at → lines_left stream (Some s) ≡ stop_line 0 s.at 0 0 ++ samples_line s.samples
     unfolding lines_left
     left_end h =
-        rw g (ap (λ (w : Walked). lines_of s.frames s.samples w)
+        ap (λ (w : Walked). lines_of s.frames s.samples w)
         (walk-ended stream law listed_tools (suc (length stream)) s.at (320 * length stream) h)
-        ∙ of_end s.frames s.samples s.at 0 Done)
+        ∙ of_end s.frames s.samples s.at 0 (Ok tt)
 
     module _ (h : s.at < length stream) {r : Report} (t : Tells (read_one (drop s.at stream) law listed_tools 320) r) where
-      pub left-refused : {w : Refusal} → r.end ≡ Refused w → lines_left stream law s ≡ stop_line (refusal_number w) s.at
+      pub left-refused : {w : Refusal} → r.end ≡ Err w → lines_left stream (Some s) ≡ stop_line (refusal_number w) s.at
           r.tool r.bit ++ samples_line s.samples
       unfolding lines_left
       left-refused {w} e =
@@ -76,67 +78,61 @@ module _ (stream : List ℕ) (law : ℕ) where
           let q = refused t e in
           let off = walk-off stream law listed_tools (suc n) n s.at (320 * n) refl h r.bit w
           (read-room (drop s.at stream) law listed_tools (320 * n) (omega arith) ∙ q) in
-          rw (g, t.tool ∙ ap (λ (x : Read Found). read_tool x) q)
-          (ap (λ (w : Walked). lines_of s.frames s.samples w) off ∙ of_end s.frames s.samples s.at r.bit (Refused w))
+          rw (t.tool ∙ ap (λ (x : Read Found). read_tool x) q)
+          (ap (λ (w : Walked). lines_of s.frames s.samples w) off ∙ of_end s.frames s.samples s.at r.bit (Err w))
 
-      pub left-frame : r.end ≡ Done → lines_left stream law s
+      pub left-frame : r.end ≡ Ok tt → lines_left stream (Some s)
           ≡ frame_line s.frames s.at r.len r.tool r.octets r.bits
           ++ lines_of (s.frames + 1) (s.samples + r.len) (walk_left stream law (s.at + r.octets))
       unfolding lines_left
       left-frame e =
           let a = accepted t e in
-          rw g
-          (ap (λ (w : Walked). lines_of s.frames s.samples w) (walk_step s.at h a.is)
+          ap (λ (w : Walked). lines_of s.frames s.samples w) (walk_step law s.at h a.is)
           ∙ of-more s.frames s.samples s.at a.frame (walk_left stream law (s.at + octets_used a.frame))
-          ∙ frame-told s.frames s.at (λ o n. lines_of (s.frames + 1) (s.samples + n) (walk_left stream law (s.at + o))) a.tells)
+          ∙ frame-told s.frames s.at (λ o n. lines_of (s.frames + 1) (s.samples + n) (walk_left stream law (s.at + o))) a.tells
 
 -- what a step does: it lists a part, and comes nearer to the end
-abbrev Nearer : List ℕ → ℕ → Stand → List ℕ → ℕ → Stand → List ℕ → ℕ → Type 0
-Nearer stream law s out to s' out' to' = Lists stream law s out to s' out' to' × steps_left stream s' < steps_left stream s
+abbrev Nearer : List ℕ → Stand → List ℕ → ℕ → Option Stand → List ℕ → ℕ → Type 0
+Nearer stream s out to next out' to' = Lists stream s out to next out' to' × steps_left stream next < steps_left stream (Some s)
 
 -- the last two lines
-pub step-last : (stream : List ℕ) (law : ℕ) {number tool bit : ℕ} {s : Stand} {out out' : List ℕ} {to : ℕ} {r : Page}
-    → Ends number tool bit s out to r out' → Stands stream s → s.ended ≡ false → to + 320 ≤ length out
-    → lines_left stream law s ≡ stop_line number s.at tool bit ++ samples_line s.samples
-    → Nearer stream law s out to r.stand out' r.to
+pub step-last : (stream : List ℕ) {number tool bit : ℕ} {s : Stand} {out out' : List ℕ} {to : ℕ} {r : Page}
+    → Ends number tool bit s out to r out' → to + 320 ≤ length out
+    → lines_left stream (Some s) ≡ stop_line number s.at tool bit ++ samples_line s.samples
+    → Nearer stream s out to r.next out' r.to
 unfolding lines_left steps_left
-step-last stream law {number} {tool} {bit} {s} t a n h e = (
+step-last stream {number} {tool} {bit} {s} t h e = (
   record {
     text = stop_line number s.at tool bit ++ samples_line s.samples;
     puts = t.puts;
     says = rw (t.ended, append-nil) e;
-    stands =
-        record {
-          short = a.short;
-          inside = rw t.at a.inside;
-          frames = rw (t.at, t.frames) a.frames;
-          samples = rw (t.frames, t.samples) a.samples;
-        };
+    stands = rw t.ended tt;
     size = omega (arith, t.most);
   },
-  rw (t.ended, n) (omega arith),
+  rw t.ended (omega arith),
 )
 
 -- a frame's line
-pub step-frame : (stream : List ℕ) (law : ℕ) {s : Stand} {r : Report} {out out' : List ℕ} {to : ℕ} {p : Page}
-    → ListsFrame s r out to p out' → Stands stream s → s.ended ≡ false → to + 320 ≤ length out → s.at < length stream
-    → Tells (read_one (drop s.at stream) law listed_tools 320) r → r.end ≡ Done → Nearer stream law s out to p.stand out' p.to
+pub step-frame : (stream : List ℕ) {s : Stand} {r : Report} {out out' : List ℕ} {to : ℕ} {p : Page}
+    → ListsFrame s r out to p out' → Stands stream s → to + 320 ≤ length out → s.at < length stream
+    → Tells (read_one (drop s.at stream) s.law listed_tools 320) r → r.end ≡ Ok tt → Nearer stream s out to p.next out' p.to
 unfolding lines_left steps_left
-step-frame stream law {s} {r} v a e m h t d =
-    let b = read-bounds (drop s.at stream) law listed_tools 320 t d in
+step-frame stream {s} {r} v a m h t d =
+    let b = read-bounds (drop s.at stream) s.law listed_tools 320 t d in
     let n = length-drop s.at stream in (
       record {
         text = frame_line s.frames s.at r.len r.tool r.octets r.bits;
         puts = v.puts;
-        says = left-frame stream law s e h t d ∙ rw (v.goes, v.frames, v.at, v.samples);
+        says = left-frame stream s h t d ∙ rw v.goes;
         stands =
-            record {
+            rw v.goes
+            (record {
               short = a.short;
-              inside = omega (arith, b.inside, v.at);
-              frames = omega (arith, b.some, v.at, v.frames);
-              samples = omega (arith, b.fits, v.samples, v.frames);
-            };
+              inside = omega (arith, b.inside);
+              frames = omega (arith, b.some, a.frames);
+              samples = omega (arith, b.fits, a.samples);
+            });
         size = omega (arith, v.most);
       },
-      rw (v.goes, e, v.at) (omega (arith, b.some)),
+      rw v.goes (omega (arith, b.some, b.inside)),
     )

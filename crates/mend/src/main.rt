@@ -3,66 +3,32 @@
 // result are held whole, so the program needs some 2.1 MiB of stack.
 #![tactic(auto)]
 
-ghost use Rattle.std.specs.Prelude.{◌≤◌, length};
+ghost use Rattle.std.specs.Prelude.{◌≤◌, length, IfSome};
 
-use rules::{Ending, LONGEST};
+use mending::MendAnswer;
+use rules::LONGEST;
 use std::io;
-use tool_console::Got;
-use tool_words::filenames::Law;
-use tool_words::options::{Settings, State, Tool, Words, Wrong};
+use tool_words::options::{Settings, Tool};
+use tool_words::refusals::refusal_name;
 
-// Whether an argument is wrong. A total that does not follow its option is a total that is not said.
-fn is_wrong(why: Wrong) -> bool {
-    match why {
-        Wrong::Unknown => true,
-        Wrong::NoNumber => true,
-        Wrong::ManyFiles => true,
-        Wrong::TooLong => true,
-        Wrong::Missing => false,
-    }
+// A call that can't be made, why, and the last line.
+fn usage(rt: HostRuntime, why: &str) {
+    tool_console::usage(rt, Tool::Mend, why);
 }
 
-fn wrong_words(w: Words) -> bool {
-    let state = w.state;
-    match state {
-        State::Wrong(why, _) => is_wrong(why),
-        State::Ready => false,
-        State::Counts(_) => false,
-        State::Master => false,
-    }
-}
-
-// Whether the call can't be made, and why.
-fn wrongly_asked(rt: HostRuntime, s: Settings) -> bool {
-    if !s.known {
-        tool_console::usage(rt, Tool::Mend, b"the total is not said");
-        return true;
-    }
-    if s.outfile == 0 {
-        tool_console::usage(rt, Tool::Mend, b"INFILE and OUTFILE must be said");
-        return true;
-    }
-    false
-}
-
-// Reads the greeting, and one octet more where it is too long.
-fn read_greeting(rt: HostRuntime, name: &[u8], greeting: &mut [u8]) -> Got
-    ensures { result.count ≤ length greeting.new }
+// Reads the greeting, and one octet more where it is too long: how many octets it has. Why it can't be read is said.
+fn read_greeting(rt: HostRuntime, name: &[u8], greeting: &mut [u8]) -> Option<usize>
+    ensures { IfSome result (λ n. n ≤ length greeting.new) }
 {
-    match tool_console::open_in(rt, name) {
-        Ok(fd) => {
-            let got = tool_console::read_part(&fd, greeting);
-            if let Some(why) = got.failed {
-                tool_console::failed(rt, Tool::Mend, name, b"standard input", why);
-            }
-            got
-        }
+    let read = match tool_console::open_in(rt, name) {
+        Ok(fd) => tool_console::read_part(&fd, greeting),
+        Err(why) => Err(why),
+    };
+    match read {
+        Ok(n) => Some(n),
         Err(why) => {
-            tool_console::failed(rt, Tool::Mend, name, b"standard input", why);
-            Got {
-                count: 0,
-                failed: Some(why),
-            }
+            tool_console::unread(rt, Tool::Mend, name, why);
+            None
         }
     }
 }
@@ -74,60 +40,33 @@ fn write_result(rt: HostRuntime, name: &[u8], res: &[u8]) -> io::Result<()> {
     tool_console::close(fd)
 }
 
-// The name of a refusal of document 01.
-fn say_name(rt: HostRuntime, number: u32) {
-    let mut name = [0u8; 8];
-    let n = tool_words::refusals::refusal_name(number, &mut name);
-    tool_console::say(rt, &name[..n]);
-}
-
-// A greeting that is not mended, and the last line.
+// A greeting that is not mended, by the name of a refusal of document 01 or TOTAL; and the last line.
 fn refused(rt: HostRuntime, number: u32) {
-    tool_console::say_tool(rt, Tool::Mend);
-    tool_console::say(rt, b"refused: ");
-    if number == 22 {
-        tool_console::say(rt, b"TOTAL");
-    } else {
-        say_name(rt, number);
-    }
-    tool_console::say(rt, b"\n");
+    let name = match number {
+        22 => "TOTAL",
+        _ => refusal_name(number),
+    };
+    tool_console::tell(rt, Tool::Mend, format_args!("refused: {name}"));
     tool_console::stop(rt, Tool::Mend, number, 0, 0, 0);
 }
 
-// Why the walk of what is kept stopped, in words; nothing where it went through the whole greeting.
-fn say_stop(rt: HostRuntime, number: u32, place: usize, bit: usize) {
-    if number == 0 {
-        return;
+// Why the walk of what is kept stopped, in words, or nothing where it went through the whole greeting; what was kept and filled; and the
+// last line, whose place is the end of the octets written.
+fn finish(rt: HostRuntime, a: MendAnswer) {
+    let walk = rules::number_of(a.stop);
+    let tool = rules::tool_of(a.stop);
+    let (kept, bit) = (a.kept, a.bit);
+    if walk != 0 {
+        let name = refusal_name(walk);
+        tool_console::tell(
+            rt,
+            Tool::Mend,
+            format_args!("the walk stopped: {name} at octet {kept}, bit {bit}"),
+        );
     }
-    tool_console::say_tool(rt, Tool::Mend);
-    tool_console::say(rt, b"the walk stopped: ");
-    say_name(rt, number);
-    tool_console::say_number(rt, b" at octet ", place);
-    tool_console::say_number(rt, b", bit ", bit);
-    tool_console::say(rt, b"\n");
-}
-
-// What was kept and filled, how the walk stopped, and the last line, whose place is the end of the octets written.
-fn finish(
-    rt: HostRuntime,
-    octets: usize,
-    frames: usize,
-    kept: usize,
-    filled: usize,
-    stop: Ending,
-    bit: usize,
-) {
-    let number = rules::number_of(stop);
-    say_stop(rt, number, kept, bit);
-    tool_console::say_number(rt, b"frames=", frames);
-    tool_console::say_number(rt, b" kept=", kept);
-    tool_console::say_number(rt, b" filled=", filled);
-    tool_console::say_number(rt, b"\nwalk=", number as usize);
-    tool_console::say_number(rt, b" at=", kept);
-    tool_console::say_number(rt, b" tool=", rules::tool_of(stop) as usize);
-    tool_console::say_number(rt, b" bit=", bit);
-    tool_console::say(rt, b"\n");
-    tool_console::stop(rt, Tool::Mend, 0, octets, 0, 0);
+    let _ = eprintln!(rt; "frames={} kept={kept} filled={}", a.frames, a.filled);
+    let _ = eprintln!(rt; "walk={walk} at={kept} tool={tool} bit={bit}");
+    tool_console::stop(rt, Tool::Mend, 0, a.octets, 0, 0);
 }
 
 // A greeting is read, mended and written.
@@ -140,32 +79,26 @@ fn mend_in(
     greeting: &mut [u8],
     res: &mut [u8],
 ) {
-    let got = read_greeting(rt, name, greeting);
-    if got.failed.is_some() {
+    let Some(n) = read_greeting(rt, name, greeting) else {
         return;
-    }
-    let n = got.count;
+    };
     let a = mending::mend(&greeting[..n], law, total, res);
-    let end = a.end;
-    let number = mending::mend_number(end);
+    let number = rules::number_of(a.end);
     if number != 0 {
         refused(rt, number);
         return;
     }
-    let k = a.octets;
-    if let Err(why) = write_result(rt, other, &res[..k]) {
-        tool_console::failed(rt, Tool::Mend, other, b"standard output", why);
-        return;
+    match write_result(rt, other, &res[..a.octets]) {
+        Ok(()) => finish(rt, a),
+        Err(why) => tool_console::unwritten(rt, Tool::Mend, other, why),
     }
-    let stop = a.stop;
-    finish(rt, k, a.frames, a.kept, a.filled, stop, a.bit);
 }
 
 // The octets of the longest greeting, and one more.
 const ROOM: usize = LONGEST + 1;
 
 // There is room for one octet more than a greeting may have, so that a longer one is LONG, and for the longest result, so that ROOM can't
-// be.
+// be. A function of its own: as slices the two arrays that `run` makes are more than the checker's stack holds.
 fn with_room(
     rt: HostRuntime,
     law: u32,
@@ -185,30 +118,32 @@ fn run(rt: HostRuntime, law: u32, total: u64, name: &[u8], other: &[u8]) {
 }
 
 // The law: as an option says, otherwise as INFILE's ending tells.
-fn mend_as(rt: HostRuntime, s: Settings) {
+fn mend_as(rt: HostRuntime, s: Settings, total: u32) {
     let mut space = [0u8; 4095];
-    let n = tool_console::file_name(rt, s.infile, &mut space);
+    let name = tool_console::file_name(rt, s.infile, &mut space);
     let mut names = [0u8; 4095];
-    let m = tool_console::file_name(rt, s.outfile, &mut names);
-    match tool_words::options::law_of(s, &space[..n]) {
-        Law::Unknown => tool_console::usage(rt, Tool::Mend, b"the law is not known: say -u or -a"),
-        Law::Known(law) => run(rt, law, s.total as u64, &space[..n], &names[..m]),
+    let other = tool_console::file_name(rt, s.outfile, &mut names);
+    if let Some(law) = tool_console::law_of(rt, s, name) {
+        run(rt, law, u64::from(total), name, other);
     }
 }
 
+// The settings without the last word that is missing: a total that does not follow its option is a total that is not said.
 fn main(rt: HostRuntime) {
-    let w = tool_console::words(rt, Tool::Mend);
-    if wrong_words(w) {
-        tool_console::usage(
+    let Ok((w, _)) = tool_console::words(rt, Tool::Mend) else {
+        usage(
             rt,
-            Tool::Mend,
-            b"an argument is not known, or no number of 1 to 9 digits",
+            "an argument is not known, or no number of 1 to 9 digits",
         );
         return;
-    }
-    let s = w.said;
-    if wrongly_asked(rt, s) {
+    };
+    let Some(total) = w.said.total else {
+        usage(rt, "the total is not said");
+        return;
+    };
+    if w.said.outfile.is_none() {
+        usage(rt, "INFILE and OUTFILE must be said");
         return;
     }
-    mend_as(rt, s);
+    mend_as(rt, w.said, total);
 }

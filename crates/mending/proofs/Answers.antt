@@ -8,7 +8,7 @@ use mathlib.Core.List.{List, ◌++◌}
 use lib.ListN.{length, take, drop, length-append}
 use lib.Seq.{length-take-le}
 use borrow.Author.Tests.{eq-eqb, ne_eqb}
-use Rattle.rules.specs.declared.Ending.{Ending}
+use Rattle.rules.specs.Refusals.{Ending}
 use Rattle.rules.specs.declared.WalkAnswer.{WalkAnswer}
 use Rattle.rules.specs.Refusals.{number_of}
 use Rattle.rules.specs.Walk.{walk_from, octets_kept}
@@ -17,7 +17,7 @@ use Rattle.text_lines.specs.Puts.{Puts}
 use Rattle.text_lines.proofs.Putting.{puts_then, puts_first}
 use Rattle.walk.specs.Counting.{Counts}
 use Rattle.mending.specs.declared.MendRefusal.{MendRefusal}
-use Rattle.mending.specs.declared.MendEnding.TheVariants.{Done, Refused}
+use Rattle.std.proofs.Common.{Ok, Err}
 use Rattle.mending.specs.declared.MendAnswer.{MendAnswer}
 use Rattle.rules.specs.Tools.{all_tools}
 use Rattle.mending.specs.Mend.{walk_up_to, filling, mended, Mend, mends, declines}
@@ -54,7 +54,7 @@ declined-as {r = r} d e out =
     })
 
 -- a refusal that was told is the mending's
-pub refused_as : {o m : Mend} {why : MendRefusal} {r : MendAnswer} → Answers o r → r.end ≡ Refused why
+pub refused_as : {o m : Mend} {why : MendRefusal} {r : MendAnswer} → Answers o r → r.end ≡ Err why
     → (o ≡ declines why → declines why ≡ m) → (out : List ℕ) → Mends m r out out
 refused_as {o} {m} {why} {r} a e f out =
     let is = ends-refused o (sym a.end ∙ e) in
@@ -94,7 +94,7 @@ module _ (octets : List ℕ) (law total : ℕ) where
 
     pub answers-as : {m : Mend} → mends (mended octets law total) ≡ m → {n : ℕ} → n ≡ length (mended octets law total).octets
         → Answers m (record {
-          end = Done;
+          end = Ok tt;
           octets = n;
           frames = r.frames;
           kept = r.octets;
@@ -106,7 +106,7 @@ module _ (octets : List ℕ) (law total : ℕ) where
     answers-as e {n} l =
         subst (λ (m : Mend). Answers m
         (record {
-          end = Done;
+          end = Ok tt;
           octets = n;
           frames = r.frames;
           kept = r.octets;

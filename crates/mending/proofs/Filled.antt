@@ -10,7 +10,7 @@ use lib.Seq.{drop-append_seam}
 use lib.Dec.{lit<}
 use lib.IntN.{pos}
 use borrow.Author.Tests.{eq-eqb}
-use Rattle.rules.specs.declared.Ending.TheVariants.{Done}
+use Rattle.std.proofs.Common.{Ok}
 use Rattle.rules.proofs.Counts.{count-replicate}
 use Rattle.rules.specs.Tools.{all_tools, holds, is_law, is_length}
 use Rattle.rules.specs.Bits.{low_bits, octets_from, value_from, pack}
@@ -92,7 +92,7 @@ filling-plus left h =
 pub record FilledUp (before octets : List ℕ) (law room left : ℕ) : Type 0 where
   pub frames : List Delivered
   pub walks : WalkOf (before ++ octets) law all_tools (length before) room
-      (record { frames = frames; end = Done; place = length (before ++ octets); bit = 0 })
+      (record { frames = frames; end = Ok tt; place = length (before ++ octets); bit = 0 })
   pub samples : samples_kept frames ≡ replicate left (plus_zero (mask_of law))
   pub count : length frames ≡ length octets
 
@@ -117,9 +117,9 @@ plus-walks law i (one n {left = left} {octets = octets} l p) before room r =
     (omega arith)) in
     let on : length (before ++ (o ∷ [])) ≡ length before + 1 = length-append before (o ∷ []) in
     let walk : WalkOf (before ++ (o ∷ octets)) law all_tools (length before + 1) (room - length f.samples)
-    (record { frames = rest.frames; end = Done; place = length (before ++ (o ∷ octets)); bit = 0 })
+    (record { frames = rest.frames; end = Ok tt; place = length (before ++ (o ∷ octets)); bit = 0 })
     = subst (λ (k : ℕ). WalkOf (before ++ (o ∷ octets)) law all_tools (length before + 1) (room - k)
-    (record { frames = rest.frames; end = Done; place = length (before ++ (o ∷ octets)); bit = 0 }))
+    (record { frames = rest.frames; end = Ok tt; place = length (before ++ (o ∷ octets)); bit = 0 }))
     (sym size) (rw (append_assoc before (o ∷ []) octets, on) at rest.walks) in
     record {
       frames = record { place = length before; found = f } ∷ rest.frames;

@@ -1,21 +1,26 @@
 -- The filling (specs/Mend): frames of one octet put one after another (`put-done`), the five lengths as the code puts them (`filling-is`),
 -- and how many octets they are (`filling-length`, `filling-few`).
-use Prim.Native.Nat.{ℕ, ◌+◌, ◌*◌, ◌/◌, ◌%◌, ◌≤◌}
+use Prim.Native.Nat.{ℕ, ◌+◌, ◌-◌, ◌*◌, ◌/◌, ◌%◌, ◌≤◌}
 use native.Mathlib.Omega.{arith}
 use mathlib.Core.Path.{◌≡◌, sym, ap, ◌∙◌}
 use mathlib.Core.List.{List, ◌++◌, append-nil}
-use lib.ListN.{length, replicate, length-append, length-replicate}
+use lib.ListN.{length, take, drop, replicate, length-append, length-replicate, length-take, length-drop}
 use Rattle.rules.specs.First.{base_of}
-use Rattle.rules.proofs.Lent.{Filling}
+use borrow.Rule.Slice.PartMut.{put_mid}
+use Rattle.std.proofs.lemmas.Slice.{put_mid-paste}
 use Rattle.text_lines.specs.Puts.{Puts}
 use Rattle.text_lines.proofs.Putting.{puts_word, puts_then, puts-as}
 use Rattle.mending.specs.Mend.{fill_by, filling}
 
-pub put-done : {out₀ out : List ℕ} {at count octet i : ℕ} → at + count ≤ length out₀ → Filling out₀ at count octet out i → count ≤ i
-    → Puts out₀ at (replicate count octet) out (at + i)
-put-done {out₀} {out} {at} {count} {octet} {i} h f g =
+pub put-done : {out ys : List ℕ} {at : ℕ} (count octet : ℕ) → at + count ≤ length out
+    → ys ≡ replicate (length (take (at + count - at) (drop at out))) octet
+    → Puts out at (replicate count octet) (put_mid at (at + count - at) out ys) (at + count)
+put-done {out} {ys} {at} count octet h e =
+    let z = replicate count octet in
     let l = length-replicate count octet in
-    puts_word out₀ (replicate count octet) out at i (omega arith) (omega (arith, f.most)) f.is
+    let n : length (take (at + count - at) (drop at out)) ≡ count = simp (length-take, length-drop) (omega arith) in
+    puts_word out z _ at count (omega arith) (sym l)
+    (put_mid-paste at (at + count - at) out ys z count (e ∙ ap (λ k. replicate k octet) n) (omega arith) (sym l))
 
 -- each length as often as it fits in what the longer ones leave
 abbrev pub by320 : ℕ → ℕ

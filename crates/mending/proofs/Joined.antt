@@ -6,8 +6,8 @@ use mathlib.Core.Path.{◌≡◌, refl, sym, ◌∙◌}
 use mathlib.Core.List.{List, ◌++◌}
 use lib.ListN.{length, take, drop, length-append}
 use lib.Seq.{drop-append-le, take_all}
-use Rattle.rules.specs.declared.Ending.{Ending}
-use Rattle.rules.specs.declared.Ending.TheVariants.{Done, Refused}
+use Rattle.rules.specs.Refusals.{Ending}
+use Rattle.std.proofs.Common.{Ok, Err}
 use Rattle.rules.specs.Reading.{whole}
 use Rattle.rules.specs.Frame.{read_one}
 use Rattle.rules.specs.Walk.{Walked, walk_all, octets_kept, samples_kept}
@@ -24,7 +24,7 @@ pub record Clean (octets : List ℕ) (at : ℕ) (w : Walked) : Type 0 where
   pub bit : w.bit ≡ 0
 
 pub clean : {octets : List ℕ} {law set at room : ℕ} {w : Walked} → WalkOf octets law set at room w → at ≤ length octets
-    → w.end ≡ Done → Clean octets at w
+    → w.end ≡ Ok tt → Clean octets at w
 unfolding octets_kept
 clean (ended h) l e = record { used = omega arith; place = omega arith; bit = refl }
 clean (refused h d) l e = let z : ◌≡◌ {A = ℕ} 0 1 = cc in absurd (omega arith)
@@ -33,7 +33,7 @@ clean {octets} {law} {set} {at} {room} (delivers h d t) l e =
     record { used = omega (arith, i.used); place = i.place; bit = i.bit }
 
 pub joined : {p : List ℕ} {law set at room : ℕ} {w : Walked} (q : List ℕ) {v : Walked} → WalkOf p law set at room w
-    → at ≤ length p → w.end ≡ Done
+    → at ≤ length p → w.end ≡ Ok tt
     → WalkOf (p ++ q) law set (length p) (room - length (samples_kept w.frames)) v → WalkOf (p ++ q) law set at room (after w.frames v)
 unfolding samples_kept
 joined {p} {law} {set} {at} {room} q {v} (ended h) l e on =
@@ -57,7 +57,7 @@ walked-is w h k l = rw (← h, ← k, ← l) refl
 pub record KeepsOwn (octets : List ℕ) (law set room : ℕ) (w : Walked) : Type 0 where
   pub inside : octets_kept w.frames ≤ length octets
   pub walks : walk_all (take (octets_kept w.frames) octets) law set room
-      ≡ record { frames = w.frames; end = Done; place = octets_kept w.frames; bit = 0 }
+      ≡ record { frames = w.frames; end = Ok tt; place = octets_kept w.frames; bit = 0 }
 
 pub kept-walks : (octets : List ℕ) (law set room : ℕ) → Walkable octets law set → KeepsOwn octets law set room (walk_all octets law set room)
 kept-walks octets law set room t = go (walk_all octets law set room).end refl
@@ -66,10 +66,10 @@ kept-walks octets law set room t = go (walk_all octets law set room).end refl
     w = walk_all octets law set room
 
     go : (e : Ending) → w.end ≡ e → KeepsOwn octets law set room w
-    go Done e =
+    go (Ok tt) e =
         let c = clean (walk-all-of octets law set room t) (omega arith) e in
         let all : take (octets_kept w.frames) octets ≡ octets = take_all (octets_kept w.frames) octets (omega (arith, c.used)) in
         record { inside = omega (arith, c.used); walks = rw all (walked-is w e (omega (arith, c.place, c.used)) c.bit) }
-    go (Refused why) e =
+    go (Err why) e =
         let r = refused-walk octets law set room why t e in
         record { inside = omega (arith, r.inside, r.used); walks = rw r.used r.kept }

@@ -7,7 +7,7 @@ use mathlib.Core.Bool.{Bool, true, false, cond}
 use lib.ListN.{length, drop, length-append, length-drop}
 use lib.Dec.{leb}
 use Rattle.rules.specs.declared.Refusal.{Refusal}
-use Rattle.rules.specs.declared.Ending.TheVariants.{Done, Refused}
+use Rattle.std.proofs.Common.{Ok, Err}
 use Rattle.rules.specs.Reading.{Read, whole, refuse}
 use Rattle.rules.specs.Frame.{Found, octets_used, read_one}
 use Rattle.rules.specs.Walk.{Walked, stopped, before, onward, walk_from, octets_kept, samples_kept}
@@ -31,7 +31,7 @@ walk-within (suc fuel) octets law set at room h =
     next f = before (record { place = at; found = f }) (rest f)
 
     stop : Refusal → ℕ → Walked
-    stop w bit = stopped (Refused w) at bit
+    stop w bit = stopped (Err w) at bit
 
     Later : Type 0
     Later = (f : Found) → at + octets_used f ≤ length octets
@@ -52,6 +52,6 @@ walk-within (suc fuel) octets law set at room h =
     one (refuse w bit) e later = none w bit
 
     start : (b : Bool) → leb (length octets) at ≡ b → Later
-        → Within (length octets) at room (cond b (stopped Done at 0) (onward (read_one (drop at octets) law set room) next stop))
+        → Within (length octets) at room (cond b (stopped (Ok tt) at 0) (onward (read_one (drop at octets) law set room) next stop))
     start true e later = record { octets = omega arith; samples = omega arith }
     start false e later = one (read_one (drop at octets) law set room) refl later

@@ -15,7 +15,7 @@ use Rattle.rules.proofs.Judged.{AllMet, by-judged, judged-met, judged-first, jud
 use Rattle.rules.specs.Walk.{longest}
 use Rattle.mending.specs.declared.MendRefusal.{MendRefusal}
 use Rattle.mending.specs.declared.MendRefusal.TheVariants.{Frame, Total}
-use Rattle.mending.specs.declared.MendEnding.TheVariants.{Done, Refused}
+use Rattle.std.proofs.Common.{Ok, Err}
 use Rattle.mending.specs.Mend.{Mended, mended, is_total, Mend, mends, declines, mend_of}
 use Rattle.mending.specs.Calls.{mend_end}
 use Rattle.mending.specs.Why.{why_asks, why_of}
@@ -25,7 +25,7 @@ pub mendings : (m : Mended) → Apart declines (mends m)
 mendings m = record { other = λ w e. let z : ◌≡◌ {A = ℕ} 0 1 = cc in omega arith; same = λ v w e. cc }
 
 -- an ending says which it was
-pub ends-refused : (o : Mend) {v : MendRefusal} → mend_end o ≡ Refused v → o ≡ declines v
+pub ends-refused : (o : Mend) {v : MendRefusal} → mend_end o ≡ Err v → o ≡ declines v
 ends-refused (mends m) e = let z : ◌≡◌ {A = ℕ} 0 1 = cc in absurd (omega arith)
 ends-refused (declines w) {v} e = let z : w ≡ v = cc in ap declines z
 
@@ -33,7 +33,7 @@ pub record Mending (o : Mend) : Type 0 where
   pub after : Mended
   pub is : o ≡ mends after
 
-pub ends-done : (o : Mend) → mend_end o ≡ Done → Mending o
+pub ends-done : (o : Mend) → mend_end o ≡ Ok tt → Mending o
 ends-done (mends m) e = record { after = m; is = refl }
 ends-done (declines w) e = let z : ◌≡◌ {A = ℕ} 0 1 = cc in absurd (omega arith)
 

@@ -11,7 +11,7 @@ use lib.ListN.{length, take, drop, replicate, length-append, length-replicate, t
 use lib.Seq.{length-take-le, take_all}
 use lib.Dec.{eqb, leb}
 use borrow.Author.Tests.{eqb-true, leb-true}
-use Rattle.rules.specs.declared.Ending.TheVariants.{Done}
+use Rattle.std.proofs.Common.{Ok}
 use Rattle.rules.specs.Tools.{all_tools, is_length}
 use Rattle.rules.specs.Samples.{mask_of, plus_zero}
 use Rattle.rules.specs.Walk.{Walked, walk_from, longest, walk_all, octets_kept, samples_kept}
@@ -46,7 +46,7 @@ forty {octets} {law} {set} {at} {room} (delivers {f = f} {rest = w} h e t) =
 -- "The result is accepted and holds exactly the total", v being the walk over it: its frames are those kept and then the filling, its
 -- samples those kept and then plus zeros
 pub record HoldsTotal (law total : ℕ) (m : Mended) (v : Walked) : Type 0 where
-  pub end : v.end ≡ Done
+  pub end : v.end ≡ Ok tt
   pub place : v.place ≡ length m.octets
   pub frames : StartsWith m.walked.frames v.frames
   pub samples : samples_kept v.frames ≡ samples_kept m.walked.frames ++ replicate m.filled (plus_zero (mask_of law))
@@ -58,9 +58,9 @@ pub record Kept (octets : List ℕ) (law total : ℕ) (m : Mended) : Type 0 wher
   pub inside : octets_kept m.walked.frames ≤ length octets
   pub begins : m.octets ≡ take (octets_kept m.walked.frames) octets ++ filling m.filled
   pub walks : walk_all (take (octets_kept m.walked.frames) octets) law all_tools total
-      ≡ record { frames = m.walked.frames; end = Done; place = octets_kept m.walked.frames; bit = 0 }
+      ≡ record { frames = m.walked.frames; end = Ok tt; place = octets_kept m.walked.frames; bit = 0 }
   pub fits : length (samples_kept m.walked.frames) + m.filled ≡ total
-  pub most : (c room : ℕ) → c ≤ length octets → (walk_all (take c octets) law all_tools room).end ≡ Done
+  pub most : (c room : ℕ) → c ≤ length octets → (walk_all (take c octets) law all_tools room).end ≡ Ok tt
       → length (samples_kept (walk_all (take c octets) law all_tools room).frames) ≤ total → c ≤ octets_kept m.walked.frames
   pub same : (room : ℕ) → total ≤ room → StartsWith m.walked.frames (walk_all octets law all_tools room).frames
 
@@ -82,7 +82,7 @@ module _ {octets : List ℕ} {law total : ℕ} (may : Mendable octets law total)
   own = subst (λ (v : Walked). KeepsOwn octets law all_tools total v) all-is (kept-walks octets law all_tools total begins)
 
   -- any beginning that the walk accepts, by any room, and that does not pass the total is within what is kept
-  most : (c room : ℕ) → c ≤ length octets → (walk_all (take c octets) law all_tools room).end ≡ Done
+  most : (c room : ℕ) → c ≤ length octets → (walk_all (take c octets) law all_tools room).end ≡ Ok tt
       → length (samples_kept (walk_all (take c octets) law all_tools room).frames) ≤ total → c ≤ octets_kept w.frames
   most c room h e s =
       let p = take c octets in
@@ -174,10 +174,10 @@ why-walks octets law total {m} e =
     ap (λ (x : Mended). x.walked) (sym is) ∙ sym (all-is may)
 
 -- a walk that ends clean was allowed to begin
-begun : (octets : List ℕ) (law room : ℕ) → (walk_all octets law all_tools room).end ≡ Done → Walkable octets law all_tools
+begun : (octets : List ℕ) (law room : ℕ) → (walk_all octets law all_tools room).end ≡ Ok tt → Walkable octets law all_tools
 begun octets law room e = go (walk_begins octets law all_tools room) e
   where
-    go : {w : Walked} → Begins octets law all_tools w → w.end ≡ Done → Walkable octets law all_tools
+    go : {w : Walked} → Begins octets law all_tools w → w.end ≡ Ok tt → Walkable octets law all_tools
     go (walkable t) e = t
     go (unlawful h d) e = let z : ◌≡◌ {A = ℕ} 0 1 = cc in absurd (omega arith)
     go (no-set h d) e = let z : ◌≡◌ {A = ℕ} 0 1 = cc in absurd (omega arith)
@@ -203,7 +203,7 @@ unchanged-is octets law total v e l s =
     ap (mended_by octets total) e ∙ (λ i. record { walked = v; filled = z i; octets = o i })
 
 -- "An undamaged greeting of the right total comes back unchanged": one that a walk with any room accepts whole
-pub undamaged : (octets : List ℕ) (law total into room : ℕ) → is_total total ≡ true → (walk_all octets law all_tools into).end ≡ Done
+pub undamaged : (octets : List ℕ) (law total into room : ℕ) → is_total total ≡ true → (walk_all octets law all_tools into).end ≡ Ok tt
     → length (samples_kept (walk_all octets law all_tools into).frames) ≡ total → length octets ≤ room
     → mend_of octets law total room ≡ mends (unchanged octets (walk_all octets law all_tools into))
 undamaged octets law total into room t e s r =

@@ -9,7 +9,7 @@ use lib.ListN.{length, length-append}
 use lib.Dec.{ltb}
 use borrow.Author.Tests.{le-ltb}
 use Rattle.rules.specs.declared.Refusal.TheVariants.{Tool, Room, Set, Law}
-use Rattle.rules.specs.declared.Ending.TheVariants.{Done}
+use Rattle.std.proofs.Common.{Ok}
 use Rattle.rules.specs.Tools.{holds, is_set, is_law, is_length}
 use Rattle.rules.proofs.Tests.{and_left}
 use Rattle.rules.proofs.Firsts.{as_written, first-as-written}
@@ -87,7 +87,7 @@ read-in-room octets law set room room' e k =
     rw (p.0, q.0) (frame-in-room (law-mask law) set room room' (bits_of-below octets) k q.1)
 
 -- a walk that ends clean
-pub walk-in-room : {octets : List ℕ} {law set at room : ℕ} {w : Walked} (room' : ℕ) → WalkOf octets law set at room w → w.end ≡ Done
+pub walk-in-room : {octets : List ℕ} {law set at room : ℕ} {w : Walked} (room' : ℕ) → WalkOf octets law set at room w → w.end ≡ Ok tt
     → length (samples_kept w.frames) ≤ room' → WalkOf octets law set at room' w
 unfolding samples_kept
 walk-in-room room' (ended h) e k = ended h

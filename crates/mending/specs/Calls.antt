@@ -1,15 +1,14 @@
 -- The contract of the public call: its answer and the lent output, for all inputs. "Write the result elsewhere and report frames kept,
 -- octets kept and samples filled .. a refusal writes nothing."
 use Rattle.std.specs.Prelude.{ℕ, ◌≡◌, List, [], length}
-use Rattle.rules.specs.declared.Ending.{Ending}
-use Rattle.rules.specs.declared.Ending.TheVariants as walks
-use Rattle.rules.specs.Refusals.{refusal_number}
+use Rattle.rules.specs.Refusals.{Ending}
+use Rattle.std.specs.Prelude.{Ok, Err}
+use Rattle.rules.specs.Refusals.{refusal_number, refusal-not-zero, numbered}
 use Rattle.rules.specs.Walk.{octets_kept}
 use Rattle.rules.specs.Calls.{at_start}
 use Rattle.mending.specs.declared.MendRefusal.{MendRefusal}
 use Rattle.mending.specs.declared.MendRefusal.TheVariants.{Frame, Total}
-use Rattle.mending.specs.declared.MendEnding.{MendEnding}
-use Rattle.mending.specs.declared.MendEnding.TheVariants.{Done, Refused}
+use Rattle.mending.specs.Endings.{MendEnding}
 use Rattle.mending.specs.declared.MendAnswer.{MendAnswer}
 use Rattle.mending.specs.Mend.{Mend, mends, declines, mend_of}
 
@@ -18,14 +17,18 @@ abbrev pub mend_refusal_number : MendRefusal → ℕ
 mend_refusal_number (Frame w) = refusal_number w
 mend_refusal_number Total = 22
 
+-- no refusal has the number 0
+pub mend_refusal-not-zero : (w : MendRefusal) → mend_refusal_number w ≡ 0 → ⊥
+mend_refusal-not-zero (Frame w) e = refusal-not-zero w e
+mend_refusal-not-zero Total e = cc
+
 abbrev pub mend_number_of : MendEnding → ℕ
-mend_number_of Done = 0
-mend_number_of (Refused w) = mend_refusal_number w
+mend_number_of = numbered mend_refusal_number
 
 -- what is read off: the result's octets, the frames and octets kept, the samples filled, how the walk stopped and its bit (R-7)
 abbrev pub mend_end : Mend → MendEnding
-mend_end (mends m) = Done
-mend_end (declines w) = Refused w
+mend_end (mends m) = Ok tt
+mend_end (declines w) = Err w
 
 abbrev pub result_of : Mend → List ℕ
 result_of (mends m) = m.octets
@@ -45,7 +48,7 @@ filled_of (declines w) = 0
 
 abbrev pub stop_of : Mend → Ending
 stop_of (mends m) = m.walked.end
-stop_of (declines w) = walks.Done
+stop_of (declines w) = Ok tt
 
 abbrev pub bit_of : Mend → ℕ
 bit_of (mends m) = m.walked.bit
@@ -53,12 +56,12 @@ bit_of (declines w) = 0
 
 -- what is told of a refusal
 pub record Declines (why : MendRefusal) (r : MendAnswer) : Type 0 where
-  pub end : r.end ≡ Refused why
+  pub end : r.end ≡ Err why
   pub octets : r.octets ≡ 0
   pub frames : r.frames ≡ 0
   pub kept : r.kept ≡ 0
   pub filled : r.filled ≡ 0
-  pub stop : r.stop ≡ walks.Done
+  pub stop : r.stop ≡ Ok tt
   pub bit : r.bit ≡ 0
 
 pub record Mends (m : Mend) (r : MendAnswer) (out out' : List ℕ) : Type 0 where

@@ -1,6 +1,6 @@
 -- How much of a greeting a mending would keep, and why the walk stopped there: as `Mend`, with no room asked for and nothing written.
 use Rattle.std.specs.Prelude.{ℕ, ◌≡◌, List, [], ◌∷◌, cond, length, eqb, leb}
-use Rattle.rules.specs.declared.Ending.{Ending}
+use Rattle.rules.specs.Refusals.{Ending}
 use Rattle.rules.specs.declared.Refusal.TheVariants.{Room, Law, Long}
 use Rattle.rules.specs.Refusals.{refusal_number, number_of}
 use Rattle.rules.specs.Judged.{Asked, ask, judged}

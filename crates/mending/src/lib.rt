@@ -4,14 +4,12 @@
 
 ghost use Rattle.std.specs.Prelude.{◌+◌, ◌/◌, ◌≤◌, ◌≡◌, length, replicate};
 ghost use Rattle.text_lines.specs.Puts.{Puts};
+ghost use Rattle.mending.specs.declared.MendRefusal.TheVariants.{Frame};
 ghost use Rattle.mending.specs.Mend.{is_total, filling};
-ghost use Rattle.mending.specs.Calls.{mend_refusal_number, mend_number_of, Declines, MendGreeting};
+ghost use Rattle.mending.specs.Calls.{mend_refusal_number, mend_refusal-not-zero, Declines, MendGreeting};
 ghost use Rattle.mending.specs.Why.{why_of, stop_number, Answers};
 
-use rules::{Ending, Refusal};
-
-// ROOM, which ends the walk at the total.
-const ROOM: u32 = 4;
+use rules::{Ending, Numbered, Refusal};
 
 // TOTAL (22), or a refusal of document 01.
 #[derive(Clone, Copy)]
@@ -20,13 +18,31 @@ pub enum MendRefusal {
     Total,
 }
 
-#[derive(Clone, Copy)]
-pub enum MendEnding {
-    Done,
-    Refused(MendRefusal),
+impl From<Refusal> for MendRefusal {
+    ghost from_gives = { λ of why. why ≡ Frame of };
+
+    fn from(of: Refusal) -> MendRefusal {
+        MendRefusal::Frame(of)
+    }
 }
 
+impl Numbered for MendRefusal {
+    ghost number = { mend_refusal_number };
+
+    ghost never_zero = { mend_refusal-not-zero };
+
+    fn number(self) -> u32 {
+        match self {
+            MendRefusal::Frame(of) => of.number(),
+            MendRefusal::Total => 22,
+        }
+    }
+}
+
+pub type MendEnding = Result<(), MendRefusal>;
+
 // The result's octets, frames and octets kept, samples filled; how the walk of what is kept stopped, and its bit. A refusal tells zeros.
+// No Result: `Mends` and `Declines` state each field of a refused call too.
 #[derive(Drop)]
 pub struct MendAnswer {
     pub end: MendEnding,
@@ -38,33 +54,11 @@ pub struct MendAnswer {
     pub bit: usize,
 }
 
-pub fn mend_refusal_number(why: MendRefusal) -> u32
-    ensures { result ≡ mend_refusal_number why }
-{
-    match why {
-        MendRefusal::Frame(w) => rules::refusal_number(w),
-        MendRefusal::Total => 22,
-    }
-}
-
-// A mended greeting has the number 0.
-pub fn mend_number(end: MendEnding) -> u32
-    ensures { result ≡ mend_number_of end }
-{
-    match end {
-        MendEnding::Done => 0,
-        MendEnding::Refused(why) => mend_refusal_number(why),
-    }
-}
-
 // "TOTAL if the total isn't a multiple of 40 or is above 1,000,000".
 fn is_total(total: u64) -> bool
     ensures { result ≡ is_total total }
 {
-    if total % 40 != 0 {
-        return false;
-    }
-    total <= 1000000
+    total % 40 == 0 && total <= 1000000
 }
 
 // So many frames of one octet each, from a place on; the place behind them.
@@ -72,15 +66,12 @@ fn put_frames(octet: u8, count: usize, out: &mut [u8], at: usize) -> usize
     requires { at + count ≤ length out.old }
     ensures { Puts out.old at (replicate count octet) out.new result }
 {
-    let mut i = 0;
-    while i < count {
-        out[at + i] = octet;
-        i += 1;
-    }
-    at + i
+    out[at..at + count].fill(octet);
+    at + count
 }
 
-// "Fill up to the total with constant plus zero frames, longest first: 320, 240, 160, 80, 40."
+// "Fill up to the total with constant plus zero frames, longest first: 320, 240, 160, 80, 40." A line for each
+// length, with its frame's octet.
 fn fill(left: usize, out: &mut [u8], at: usize) -> usize
     requires { at + length (filling left) ≤ length out.old }
     ensures { Puts out.old at (filling left) out.new result }
@@ -108,12 +99,12 @@ fn declined(why: MendRefusal) -> MendAnswer
     ensures { Declines why result }
 {
     MendAnswer {
-        end: MendEnding::Refused(why),
+        end: Err(why),
         octets: 0,
         frames: 0,
         kept: 0,
         filled: 0,
-        stop: Ending::Done,
+        stop: Ok(()),
         bit: 0,
     }
 }
@@ -122,7 +113,7 @@ fn declined(why: MendRefusal) -> MendAnswer
 pub fn mend_why(octets: &[u8], law: u32, total: u64) -> MendAnswer
     ensures { Answers (why_of octets.now law total) result }
 {
-    if 1 < law {
+    if rules::MOST_LAW < law {
         return declined(MendRefusal::Frame(Refusal::Law));
     }
     if rules::LONGEST < octets.len() {
@@ -139,14 +130,13 @@ pub fn mend_why(octets: &[u8], law: u32, total: u64) -> MendAnswer
     if rules::LONGEST < result {
         return declined(MendRefusal::Frame(Refusal::Long));
     }
-    let stop = w.end;
     MendAnswer {
-        end: MendEnding::Done,
+        end: Ok(()),
         octets: result,
         frames: w.frames,
         kept,
         filled,
-        stop,
+        stop: w.end,
         bit: w.bit,
     }
 }
@@ -156,10 +146,11 @@ pub fn stop_number(stop: Ending) -> u32
     ensures { result ≡ stop_number stop }
 {
     let number = rules::number_of(stop);
-    if number == ROOM {
-        return 0;
+    if number == Refusal::Room.number() {
+        0
+    } else {
+        number
     }
-    number
 }
 
 // Mending a greeting: what is kept, whole, and the filling. The result's length is known before an octet is written.
@@ -167,16 +158,13 @@ pub fn mend(octets: &[u8], law: u32, total: u64, out: &mut [u8]) -> MendAnswer
     ensures { MendGreeting octets.now law total out.old out.new result }
 {
     let a = mend_why(octets, law, total);
-    let end = a.end;
-    match end {
-        MendEnding::Refused(_) => a,
-        MendEnding::Done => {
-            let result = a.octets;
-            if out.len() < result {
+    match a.end {
+        Err(_) => a,
+        Ok(()) => {
+            if out.len() < a.octets {
                 return declined(MendRefusal::Frame(Refusal::Room));
             }
-            let kept = a.kept;
-            let to = text_lines::put_word(&octets[..kept], out, 0);
+            let to = text_lines::put_word(&octets[..a.kept], out, 0);
             fill(a.filled, out, to);
             a
         }

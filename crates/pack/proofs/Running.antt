@@ -6,8 +6,8 @@ use mathlib.Core.List.{List, [], ◌++◌}
 use mathlib.Core.Bool.{Bool, true, false, cond}
 use lib.ListN.{length, take, length-append}
 use borrow.Author.Tests.{eqb-true}
-use Rattle.rules.specs.declared.Ending.{Ending}
-use Rattle.rules.specs.declared.Ending.TheVariants.{Done, Refused}
+use Rattle.rules.specs.Refusals.{Ending}
+use Rattle.std.proofs.Common.{Ok, Err}
 use Rattle.rules.specs.Tools.{is_law, is_length}
 use Rattle.rules.specs.Walk.{longest}
 use Rattle.rules.proofs.Octets.{Below}
@@ -21,22 +21,22 @@ use Rattle.tool_packing.proofs.Parts.{begun, carried_on}
 use Rattle.tool_packing.proofs.Onward.{Adds, on-adds, on-takes-room}
 use Rattle.pack.specs.declared.Run.{Run}
 use Rattle.tool_packing.specs.SoundParts.{part_size, goes_on}
-use Rattle.pack.specs.Runs.{page_size, OneSound, NextOctets, Stands, StopsRun, StartsWell, steps_left}
+use Rattle.pack.specs.Runs.{page_size, OneSound, NextOctets, Stands, Turns, StartsWell, steps_left}
 
 never : {A : Type 0} → false ≡ true → A
 never e = let z : ◌≡◌ {A = ℕ} 0 1 = cc in absurd (omega arith)
 
 -- it goes on only after a full part that was packed well
-pub goes_on_lem : (e : Ending) (count : ℕ) → goes_on e count ≡ true → (e ≡ Done) × (count ≡ part_size)
-goes_on_lem Done count h = (refl, eqb-true count part_size h)
-goes_on_lem (Refused why) count h = never h
+pub goes_on_lem : (e : Ending) (count : ℕ) → goes_on e count ≡ true → (e ≡ Ok tt) × (count ≡ part_size)
+goes_on_lem (Ok _) count h = (refl, eqb-true count part_size h)
+goes_on_lem (Err why) count h = never h
 
 -- what is kept is no longer than the longest stream
 pub kept-most : {s : Job} {kept : List ℕ} {run : Run} → OneSound s kept run → run.packed.octets ≤ longest
 kept-most {s} {kept} o = (pack-inside o.sound s.law s.set s.length longest [] kept o.is).octets
 
 -- by a law
-pub sound-lawful : {s : Job} {kept : List ℕ} {run : Run} → OneSound s kept run → run.packed.end ≡ Done → is_law s.law ≡ true
+pub sound-lawful : {s : Job} {kept : List ℕ} {run : Run} → OneSound s kept run → run.packed.end ≡ Ok tt → is_law s.law ≡ true
 sound-lawful {s} o e = (well-packed o.sound s.law s.set s.length longest (sym o.is.end ∙ e)).lawful
 
 -- a run that does not go on is nearer to its end, and so is one that took room
@@ -58,32 +58,6 @@ part-multiple : (n parts : ℕ) → is_length n ≡ true → parts * part_size �
 part-multiple n parts i =
     by_length (λ n. parts * part_size ≡ parts * (part_size / n) * n) (omega arith) (omega arith) (omega arith) (omega arith) (omega arith) n i
 
-pub record Turned (s : Job) (run r : Run) : Type 0 where
-  pub stands : Stands s r
-  pub less : steps_left r < steps_left run
-
--- something failed: what was packed before stays
-pub run-stopped : (s : Job) (run r : Run) → Stands s run → run.more ≡ true → StopsRun run.packed r → Turned s run r
-run-stopped s run r w m p =
-    let e = p.ends in
-    let same : r.packed.octets ≡ run.packed.octets = rw p.same refl in
-    let o = w.one in
-    record {
-      stands = record {
-        kept = w.kept;
-        one = record {
-          sound = o.sound;
-          is = rw p.same o.is;
-          allowed = o.allowed;
-          parts = o.parts;
-          whole = λ t. never (sym e ∙ t);
-        };
-        frames = λ t. never (sym e ∙ t);
-        samples = λ t. never (sym e ∙ t);
-      };
-      less = steps-end run r m e (omega (arith, same));
-    }
-
 -- a part that was packed after what stands
 module _ (s : Job) (run : Run) (w : Stands s run) (m : run.more ≡ true) (part page page' : List ℕ) (b : Below 256 part)
     (h : length part ≤ part_size)
@@ -101,10 +75,10 @@ module _ (s : Job) (run : Run) (w : Stands s run) (m : run.more ≡ true) (part 
   next-octets = record { sound = w.one.sound; part = part; kept = w.kept; was = w.one.is; is = more-kept }
 
   -- and was kept
-  pub part-taken : (count : ℕ) → count ≤ length part → (r : Run) → r.packed ≡ p → r.more ≡ goes_on p.end count → Turned s run r
+  pub part-taken : (count : ℕ) → count ≤ length part → (r : Run) → r.packed ≡ p → r.more ≡ goes_on p.end count → Turns s run r
   part-taken count c r q e = go r.more refl
     where
-      full : r.more ≡ true → (p.end ≡ Done) × (length part ≡ part_size)
+      full : r.more ≡ true → (p.end ≡ Ok tt) × (length part ≡ part_size)
       full x = let g = goes_on_lem p.end count (sym e ∙ x) in (g.0, omega (arith, h, c, g.1))
 
       one : OneSound s (w.kept ++ take (p.octets - run.packed.octets) page') r
@@ -123,7 +97,7 @@ module _ (s : Job) (run : Run) (w : Stands s run) (m : run.more ≡ true) (part 
       taken : r.more ≡ true → run.packed.octets < p.octets
       taken x = on-takes-room part s.law s.set s.length page page' b (omega (arith, (full x).1)) t (full x).0
 
-      go : (x : Bool) → r.more ≡ x → Turned s run r
+      go : (x : Bool) → r.more ≡ x → Turns s run r
       go true x =
           let g = taken x in
           record {

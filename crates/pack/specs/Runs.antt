@@ -1,6 +1,6 @@
 -- Part after part: what each adds to what is kept, and how far it is to the end.
-use Rattle.std.specs.Prelude.{ℕ, ◌+◌, ◌*◌, ◌-◌, ◌≤◌, ◌≡◌, Bool, true, false, cond, List, [], ◌++◌, length}
-use Rattle.rules.specs.declared.Ending.TheVariants.{Done}
+use Rattle.std.specs.Prelude.{ℕ, ◌+◌, ◌*◌, ◌-◌, ◌≤◌, ◌<◌, ◌≡◌, Bool, true, false, cond, List, [], ◌++◌, length}
+use Rattle.std.specs.Prelude.{Ok}
 use Rattle.rules.specs.Tools.{is_length}
 use Rattle.rules.specs.Walk.{longest}
 use Rattle.tool_packing.specs.declared.packing.PackAnswer.{PackAnswer}
@@ -39,7 +39,7 @@ pub record NextOctets (job : Job) (before after : PackAnswer) (octets : List ℕ
 pub record WholeSound (job : Job) (run : Run) : Type 0 where
   pub kept : List ℕ
   pub one : OneSound job kept run
-  pub well : run.packed.end ≡ Done
+  pub well : run.packed.end ≡ Ok tt
 
 -- a run on its way: where more may come, each part so far took room
 pub record Stands (job : Job) (run : Run) : Type 0 where
@@ -53,12 +53,12 @@ pub record StartsWell (job : Job) (packed : PackAnswer) : Type 0 where
   pub page : List ℕ
   pub page' : List ℕ
   pub is : Pack [] job.law job.set job.length page page' packed
-  pub well : packed.end ≡ Done
-
--- a run that can't go on keeps what was packed
-pub record StopsRun (packed : PackAnswer) (run : Run) : Type 0 where
-  pub same : run.packed ≡ packed
-  pub ends : run.more ≡ false
+  pub well : packed.end ≡ Ok tt
 
 unfoldable pub steps_left : Run → ℕ
 steps_left run = cond run.more 1 0 + (longest - run.packed.octets)
+
+-- a part more: the run stands, and is nearer to its end
+pub record Turns (job : Job) (run r : Run) : Type 0 where
+  pub stands : Stands job r
+  pub less : steps_left r < steps_left run

@@ -3,22 +3,21 @@
 // when all is well. So a stream of 1,048,576 octets takes no more memory than a short one.
 #![tactic(auto)]
 
-ghost use Rattle.std.specs.Prelude.{◌+◌, ◌≤◌, ◌<◌, ◌≡◌, true, length};
+ghost use Rattle.std.specs.Prelude.{◌+◌, ◌≤◌, ◌<◌, ◌≡◌, true, length, IfOk};
 ghost use Rattle.rules.specs.Tools.{is_law};
 ghost use Rattle.tool_packing.specs.SoundParts.{part_size};
 ghost use Rattle.tool_playback.specs.Runs.{Reachable};
-ghost use Rattle.pack.specs.Runs.{page_size, FilledIf, NextOctets, WholeSound, Stands, StopsRun, StartsWell, steps_left};
+ghost use Rattle.pack.specs.Runs.{page_size, FilledIf, NextOctets, WholeSound, Stands, Turns, StartsWell, steps_left};
 
 use recording::marking::HEADING;
 use std::fs::File;
 use std::io;
-use tool_console::{InFile, OutFile};
+use tool_console::{InFile, Names, OutFile, no_error};
 use tool_packing::packing::PackAnswer;
 use tool_playback::parts::Reading;
 use tool_playback::playing::Body;
 use tool_playback::telling::Tells;
 use tool_sound::sounds::Way;
-use tool_words::filenames::Law;
 use tool_words::options::{Form, Settings, Tool};
 
 // The octets of a page, which takes what a part of 61,440 samples makes: at most 41 octets for 40 samples.
@@ -27,19 +26,9 @@ const PAGE: usize = 62976;
 // What can fail on the way: the sound can't be read, what it makes can't be kept or read again, or it can't be written; and why.
 #[derive(Clone, Copy)]
 enum Amiss {
-    Nothing,
     Unread(io::Error),
     Unkept(io::Error),
     Unwritten(io::Error),
-}
-
-fn is_well(wrong: Amiss) -> bool {
-    match wrong {
-        Amiss::Nothing => true,
-        Amiss::Unread(_) => false,
-        Amiss::Unkept(_) => false,
-        Amiss::Unwritten(_) => false,
-    }
 }
 
 // What is packed, and how: by which law, tools and frame length; the sound's form; whether it is filled up, and a recording is written.
@@ -53,14 +42,14 @@ struct Job {
     records: bool,
 }
 
-// What was packed so far, how many octets were added to the last part, whether more sound may come, what failed, and how many octets the
-// file should still have.
+// What was packed so far, how many octets were added to the last part, whether more sound may come, and how many octets the file should
+// still have.
+// `more` is a flag: it is no failure, and the definitions `Stands` and `OneSound` state facts under it.
 #[derive(Clone, Copy)]
 struct Run {
     packed: PackAnswer,
     filled: usize,
     more: bool,
-    wrong: Amiss,
     left: usize,
 }
 
@@ -74,19 +63,6 @@ fn filled_up(fill: bool, part: &mut [u8], count: usize, law: u32) -> usize
         return tool_packing::cutting::fill_up(part, count, law);
     }
     0
-}
-
-// A run that can't go on.
-fn stopped(packed: PackAnswer, wrong: Amiss) -> Run
-    ensures { StopsRun packed result }
-{
-    Run {
-        packed,
-        filled: 0,
-        more: false,
-        wrong,
-        left: 0,
-    }
 }
 
 // The octets of a part, put behind those that are kept. The job and both answers stand here for the contract alone.
@@ -103,20 +79,25 @@ fn keep_part(
 }
 
 // One part read, packed and kept.
-fn next_part(fd: &InFile, keep: &File, run: Run, job: Job, part: &mut [u8], page: &mut [u8]) -> Run
+fn next_part(
+    fd: &InFile,
+    keep: &File,
+    run: Run,
+    job: Job,
+    part: &mut [u8],
+    page: &mut [u8],
+) -> Result<Run, Amiss>
     requires { (Stands job run) × (run.more ≡ true) × (length part.old ≡ part_size) × (length page.old ≡ page_size) }
-    ensures stands { Stands job result }
-    ensures less { steps_left result < steps_left run }
+    ensures { IfOk result (λ r. Turns job run r) }
 {
-    let packed = run.packed;
-    let form = job.form;
-    let got = tool_sound::sounds::read_part(fd, form, job.law, run.left, part);
-    if let Some(why) = got.failed {
-        return stopped(packed, Amiss::Unread(why));
-    }
-    let count = got.count;
+    let heard = match tool_sound::sounds::read_part(fd, job.form, job.law, run.left, part) {
+        Ok(heard) => heard,
+        Err(why) => return Err(Amiss::Unread(why)),
+    };
+    let count = heard.count;
     let filled = filled_up(job.fill, part, count, job.law);
     let end = count + filled;
+    let packed = run.packed;
     let p = tool_packing::packing::pack_on(
         packed,
         &part[..end],
@@ -127,20 +108,18 @@ fn next_part(fd: &InFile, keep: &File, run: Run, job: Job, part: &mut [u8], page
     );
     let n = p.octets - packed.octets;
     if let Err(why) = keep_part(keep, job, packed, p, &page[..n]) {
-        return stopped(packed, Amiss::Unkept(why));
+        return Err(Amiss::Unkept(why));
     }
-    let e = p.end;
-    let more = tool_packing::cutting::may_go_on(e, count);
-    Run {
+    Ok(Run {
         packed: p,
         filled,
-        more,
-        wrong: Amiss::Nothing,
-        left: got.left,
-    }
+        more: tool_packing::cutting::may_go_on(p.end, count),
+        left: heard.left,
+    })
 }
 
 // Part after part, until the sound ends, is refused or something fails.
+// A `while`: whether a part is the last is known when it is packed.
 fn all_parts(
     fd: &InFile,
     keep: &File,
@@ -148,83 +127,64 @@ fn all_parts(
     job: Job,
     part: &mut [u8],
     page: &mut [u8],
-) -> Run
+) -> Result<Run, Amiss>
     requires { (Stands job start) × (length part.old ≡ part_size) × (length page.old ≡ page_size) }
-    ensures { Stands job result }
+    ensures { IfOk result (λ r. Stands job r) }
 {
     let mut run = start;
     while run.more {
-        let next = next_part(fd, keep, run, job, part, page);
-        run = next;
+        match next_part(fd, keep, run, job, part, page) {
+            Ok(next) => run = next,
+            Err(amiss) => return Err(amiss),
+        }
     }
-    run
-}
-
-// Why the settings are refused.
-fn explain_settings(rt: HostRuntime, number: u32) {
-    if number == 11 {
-        tool_console::say_number(
-            rt,
-            b"pack: the tool set is an odd number of at most ",
-            rules::ALL_TOOLS as usize,
-        );
-        tool_console::say(rt, b"\n");
-    }
-    if number == 10 {
-        tool_console::say(rt, b"pack: the frame length is 40, 80, 160, 240 or 320\n");
-    }
+    Ok(run)
 }
 
 // Why the sound is refused.
 fn explain_sound(rt: HostRuntime, number: u32) {
-    if number == 10 {
-        tool_console::say(
+    match number {
+        10 => tool_console::tell(
             rt,
-            b"pack: no length fits the octets at the end; -f fills them up\n",
-        );
-    }
-    if number == 13 {
-        tool_console::say_number(
+            Tool::Pack,
+            "no length fits the octets at the end; -f fills them up",
+        ),
+        13 => tool_console::tell(
             rt,
-            b"pack: the stream would be longer than ",
-            rules::LONGEST,
-        );
-        tool_console::say(rt, b" octets; the sound up to the place below fits\n");
+            Tool::Pack,
+            format_args!(
+                "the stream would be longer than {} octets; the sound up to the place below fits",
+                rules::LONGEST
+            ),
+        ),
+        _ => {}
     }
 }
 
 // A recording begins with the heading of its law.
 fn heading_written(records: bool, law: u32, fd: &OutFile) -> io::Result<()> {
     if records {
-        let heading = recording::marking::heading_of(law);
-        return tool_console::write_out(fd, &heading);
+        return tool_console::write_out(fd, &recording::marking::heading_of(law));
     }
     Ok(())
 }
 
-// The system's number where no call failed.
-const NO_ERROR: i32 = 0;
-
 // What is kept, put into a file page by page.
-fn copied(keep: &File, b: Body, fd: &OutFile, page: &mut [u8]) -> Amiss
+// A `while`: how many octets a read gives is known when it is done.
+fn copied(keep: &File, b: Body, fd: &OutFile, page: &mut [u8]) -> Result<(), Amiss>
     requires { Reachable b }
 {
     let mut at = 0;
     while at < b.size {
-        let got = tool_playback::playing::window_at(keep, b, at, page);
-        let n = got.count;
-        if let Some(why) = got.failed {
-            return Amiss::Unkept(why);
-        }
-        if n == 0 {
-            return Amiss::Unkept(io::Error::from_raw_os_error(NO_ERROR));
-        }
-        if let Err(why) = tool_console::write_out(fd, &page[..n]) {
-            return Amiss::Unwritten(why);
-        }
+        let n = match tool_playback::playing::window_at(keep, b, at, page) {
+            Ok(0) => return Err(Amiss::Unkept(no_error())),
+            Ok(n) => n,
+            Err(why) => return Err(Amiss::Unkept(why)),
+        };
+        tool_console::write_out(fd, &page[..n]).map_err(Amiss::Unwritten)?;
         at += n;
     }
-    Amiss::Nothing
+    Ok(())
 }
 
 // A frame that is all 0++ or all 0-- is a loss to every reader of recordings: how many there are is said, by reading what is kept so.
@@ -238,12 +198,14 @@ fn say_erased(rt: HostRuntime, keep: &File, b: Body, law: u32)
     };
     let t = tool_playback::playing::play_file(rt, keep, b, how, Way::Counted, Tells::Nothing);
     if t.lost != 0 {
-        tool_console::say_number(
+        tool_console::tell(
             rt,
-            b"pack: frames that are all 0++ or all 0--, so that readers of recordings take them for lost: ",
-            t.lost,
+            Tool::Pack,
+            format_args!(
+                "frames that are all 0++ or all 0--, so that readers of recordings take them for lost: {}",
+                t.lost
+            ),
         );
-        tool_console::say(rt, b"\n");
     }
 }
 
@@ -259,56 +221,34 @@ fn say_done(rt: HostRuntime, run: Run, job: Job, keep: &File, b: Body)
         tool_console::summary(rt, p.frames, p.samples, b.size);
     }
     if job.fill {
-        tool_console::say_number(rt, b"filled=", run.filled);
-        tool_console::say(rt, b"\n");
+        let _ = eprintln!(rt; "filled={}", run.filled);
     }
     tool_console::stop(rt, Tool::Pack, 0, p.samples, 0, 0);
-}
-
-// The names of what is read and of what is written.
-#[derive(Clone, Copy)]
-struct Names<'a> {
-    from: &'a [u8],
-    to: &'a [u8],
 }
 
 // What failed, and the last line.
 fn failed(rt: HostRuntime, wrong: Amiss, names: Names<'_>) {
     match wrong {
-        Amiss::Unread(why) => tool_console::failed(
-            rt,
-            Tool::Pack,
-            names.from,
-            b"standard input",
-            why,
-        ),
-        Amiss::Unkept(why) => tool_console::failed(rt, Tool::Pack, b"/tmp", b"/tmp", why),
-        Amiss::Unwritten(why) => tool_console::failed(
-            rt,
-            Tool::Pack,
-            names.to,
-            b"standard output",
-            why,
-        ),
-        Amiss::Nothing => {}
+        Amiss::Unread(why) => tool_console::unread(rt, Tool::Pack, names.from, why),
+        Amiss::Unkept(why) => tool_console::failed(rt, Tool::Pack, b"/tmp", "/tmp", why),
+        Amiss::Unwritten(why) => tool_console::unwritten(rt, Tool::Pack, names.to, why),
     }
 }
 
 // The stream of a whole sound to a file that was opened, in a recording after its heading.
-fn stream_in(run: Run, job: Job, keep: &File, b: Body, fd: OutFile, page: &mut [u8]) -> Amiss
+fn stream_in(
+    run: Run,
+    job: Job,
+    keep: &File,
+    b: Body,
+    fd: OutFile,
+    page: &mut [u8],
+) -> Result<(), Amiss>
     requires { (WholeSound job run) × (b.size ≡ run.packed.octets) × Reachable b }
 {
-    if let Err(why) = heading_written(job.records, job.law, &fd) {
-        return Amiss::Unwritten(why);
-    }
-    let wrong = copied(keep, b, &fd, page);
-    if !is_well(wrong) {
-        return wrong;
-    }
-    match tool_console::close(fd) {
-        Ok(()) => Amiss::Nothing,
-        Err(why) => Amiss::Unwritten(why),
-    }
+    heading_written(job.records, job.law, &fd).map_err(Amiss::Unwritten)?;
+    copied(keep, b, &fd, page)?;
+    tool_console::close(fd).map_err(Amiss::Unwritten)
 }
 
 // The stream of a whole sound is written, in a recording after its heading.
@@ -320,37 +260,23 @@ fn write_stream(
     keep: &File,
     b: Body,
     page: &mut [u8],
-) -> Amiss
+) -> Result<(), Amiss>
     requires { (WholeSound job run) × (b.size ≡ run.packed.octets) × Reachable b }
 {
     match tool_console::open_out(rt, name) {
         Ok(fd) => stream_in(run, job, keep, b, fd, page),
-        Err(why) => Amiss::Unwritten(why),
+        Err(why) => Err(Amiss::Unwritten(why)),
     }
 }
 
-// Whether a master ends before it should. A stream that is too long ends the reading too.
-fn is_cut(left: usize, number: u32) -> bool {
-    if number == 13 {
-        return false;
-    }
-    left != 0
-}
-
-// Nothing is written, and no file made, unless all of the sound was read and packed.
+// Nothing is written, and no file made, unless all of the sound was read and packed. A stream that is too long ends the reading too.
 fn finish(rt: HostRuntime, run: Run, job: Job, names: Names<'_>, keep: &File, page: &mut [u8])
     requires { Stands job run }
 {
-    let amiss = run.wrong;
-    if !is_well(amiss) {
-        failed(rt, amiss, names);
-        return;
-    }
     let p = run.packed;
-    let e = p.end;
-    let number = tool_packing::cutting::number_for(e);
-    if is_cut(run.left, number) {
-        tool_console::say(rt, b"pack: the master ends inside its sound\n");
+    let number = tool_packing::cutting::number_for(p.end);
+    if run.left != 0 && number != 13 {
+        tool_console::tell(rt, Tool::Pack, "the master ends inside its sound");
         tool_console::stop(rt, Tool::Pack, 74, 0, 0, 0);
         return;
     }
@@ -363,12 +289,10 @@ fn finish(rt: HostRuntime, run: Run, job: Job, names: Names<'_>, keep: &File, pa
         skip: 0,
         size: p.octets,
     };
-    let wrong = write_stream(rt, run, job, names.to, keep, b, page);
-    if !is_well(wrong) {
-        failed(rt, wrong, names);
-        return;
+    match write_stream(rt, run, job, names.to, keep, b, page) {
+        Ok(()) => say_done(rt, run, job, keep, b),
+        Err(wrong) => failed(rt, wrong, names),
     }
-    say_done(rt, run, job, keep, b);
 }
 
 // The sound is read and packed part after part, and then written.
@@ -383,24 +307,21 @@ fn pack_sound(
 )
     requires { (StartsWell job packed) × (length part.old ≡ part_size) × (length page.old ≡ page_size) }
 {
-    let form = job.form;
-    let o = tool_sound::sounds::open_sound(rt, fd, form, part);
-    if o.refused {
+    let Some(left) = tool_sound::sounds::open_sound(rt, fd, job.form, part) else {
         tool_console::stop(rt, Tool::Pack, 74, 0, 0, 0);
         return;
-    }
+    };
     let start = Run {
         packed,
         filled: 0,
         more: true,
-        wrong: Amiss::Nothing,
-        left: o.left,
+        left,
     };
     match tool_console::nameless(rt) {
-        Ok(keep) => {
-            let run = all_parts(fd, &keep, start, job, part, page);
-            finish(rt, run, job, names, &keep, page);
-        }
+        Ok(keep) => match all_parts(fd, &keep, start, job, part, page) {
+            Ok(run) => finish(rt, run, job, names, &keep, page),
+            Err(wrong) => failed(rt, wrong, names),
+        },
         Err(why) => failed(rt, Amiss::Unkept(why), names),
     }
 }
@@ -410,11 +331,9 @@ fn pack_file(rt: HostRuntime, job: Job, names: Names<'_>, part: &mut [u8], page:
     requires { (length part.old ≡ part_size) × (length page.old ≡ page_size) }
 {
     let packed = tool_packing::packing::pack(b"", job.law, job.set, job.length as usize, page);
-    let e = packed.end;
-    let number = rules::number_of(e);
+    let number = rules::number_of(packed.end);
     if number != 0 {
-        explain_settings(rt, number);
-        tool_console::refused(rt, Tool::Pack, number, 0, 0, 0);
+        tool_console::refuse_settings(rt, Tool::Pack, number);
         return;
     }
     match tool_console::open_in(rt, names.from) {
@@ -424,57 +343,41 @@ fn pack_file(rt: HostRuntime, job: Job, names: Names<'_>, part: &mut [u8], page:
 }
 
 // The settings are whole: the name of what is written, and then the sound.
-fn pack_named(rt: HostRuntime, s: Settings, law: u32, in_name: &[u8], name: &mut [u8]) {
-    let f = s.flags;
-    if f.records && s.outfile == 0 && in_name.len() != 0 {
-        tool_console::usage(rt, Tool::Pack, b"with -r OUTFILE must be said");
+fn pack_named(rt: HostRuntime, s: Settings, law: u32, from: &[u8], space: &mut [u8]) {
+    if s.flags.records && s.outfile.is_none() && !from.is_empty() {
+        tool_console::usage(rt, Tool::Pack, "with -r OUTFILE must be said");
         return;
     }
-    let t = tool_console::target_name(rt, s, law, in_name, name);
-    if !t.fits {
+    let Some(to) = tool_console::target_name(rt, s, law, from, space) else {
         tool_console::usage(
             rt,
             Tool::Pack,
-            b"the name of INFILE is too long for another ending",
+            "the name of INFILE is too long for another ending",
         );
         return;
-    }
-    let n = t.len;
-    let form = s.form;
+    };
     let job = Job {
         law,
         set: s.set,
         length: s.length,
-        form,
-        fill: f.fill,
-        records: f.records,
+        form: s.form,
+        fill: s.flags.fill,
+        records: s.flags.records,
     };
     let mut part = [0u8; 61440];
     let mut page = [0u8; PAGE];
-    let names = Names {
-        from: in_name,
-        to: &name[..n],
-    };
-    pack_file(rt, job, names, &mut part, &mut page);
+    pack_file(rt, job, Names { from, to }, &mut part, &mut page);
 }
 
 // A law that no option tells is told by the ending of what is read.
-fn pack_with(rt: HostRuntime, s: Settings, space: &mut [u8], name: &mut [u8]) {
-    let n = tool_console::file_name(rt, s.infile, space);
-    let in_name: &[u8] = &space[..n];
-    match tool_words::options::law_of(s, in_name) {
-        Law::Unknown => tool_console::usage(rt, Tool::Pack, b"the law is not known: say -u or -a"),
-        Law::Known(law) => pack_named(rt, s, law, in_name, name),
-    }
-}
-
 fn main(rt: HostRuntime) {
-    let w = tool_console::words(rt, Tool::Pack);
-    if tool_console::wrongly_said(rt, w) {
+    let Some(s) = tool_console::settings(rt, Tool::Pack) else {
         return;
+    };
+    let mut space = [0u8; 4095];
+    let mut names = [0u8; 4095];
+    let from = tool_console::file_name(rt, s.infile, &mut space);
+    if let Some(law) = tool_console::law_of(rt, s, from) {
+        pack_named(rt, s, law, from, &mut names);
     }
-    let s = w.said;
-    let mut in_name = [0u8; 4095];
-    let mut out_name = [0u8; 4095];
-    pack_with(rt, s, &mut in_name, &mut out_name);
 }

@@ -12,7 +12,7 @@ use lib.Pow.{shr_le}
 use borrow.Author.Tests.{ltb-false, leb-true, eqb-false, not-true}
 use Rattle.rules.specs.declared.Refusal.{Refusal}
 use Rattle.rules.specs.declared.Refusal.TheVariants.{Short, Prefix, Run, Place, Method, Case, Align, Tool, Room, Law, Set, Long}
-use Rattle.rules.specs.declared.Ending.TheVariants.{Refused}
+use Rattle.std.proofs.Common.{Err}
 use Rattle.rules.specs.Refusals.{refusal_number}
 use Rattle.rules.specs.Tools.{holds, is_length, is_law, is_set}
 use Rattle.rules.specs.Bits.{bits_of, value_from, fill_for}
@@ -359,14 +359,14 @@ pub short-octets : (octets : List ℕ) (law set room at : ℕ) → read_one octe
 short-octets octets law set room at e = omega (arith, short-bit octets law set room at e, read-asks octets law set room at e)
 
 -- and a walk that ends with SHORT ends within the last 441 octets of its stream
-pub walk-short-octets : (octets : List ℕ) (law set room : ℕ) → (walk_all octets law set room).end ≡ Refused Short
+pub walk-short-octets : (octets : List ℕ) (law set room : ℕ) → (walk_all octets law set room).end ≡ Err Short
     → length octets ≤ (walk_all octets law set room).place + 441
 walk-short-octets octets law set room e = go (walk_begins octets law set room)
   where
     v : Walked
     v = walk_all octets law set room
 
-    never-so : (w : Refusal) → (w ≡ Short → ⊥) → v ≡ stopped (Refused w) 0 0 → length octets ≤ v.place + 441
+    never-so : (w : Refusal) → (w ≡ Short → ⊥) → v ≡ stopped (Err w) 0 0 → length octets ≤ v.place + 441
     never-so w other d = absurd (other (ended_by (ap (λ (x : Walked). x.end) (sym d) ∙ e)))
 
     go : Begins octets law set v → length octets ≤ v.place + 441

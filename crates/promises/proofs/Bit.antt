@@ -12,7 +12,8 @@ use lib.Dec.{eqb, leb}
 use borrow.Author.Tests.{leb-true, leb-false}
 use Rattle.rules.specs.declared.Refusal.{Refusal}
 use Rattle.rules.specs.declared.Refusal.TheVariants.{Short, Law, Set, Long}
-use Rattle.rules.specs.declared.Ending.TheVariants.{Done, Refused}
+use Rattle.std.proofs.Common.{Ok, Err}
+use Rattle.rules.specs.Refusals.{Ending}
 use Rattle.rules.specs.Tools.{is_set, is_law}
 use Rattle.rules.specs.Bits.{low_bits, bits_of, value_from}
 use Rattle.rules.specs.Samples.{mask_of}
@@ -103,18 +104,18 @@ read-bit octets law set room w at e = (subst (λ (m : Read Found). Says 13 (8 * 
 pub short-bit : (octets : List ℕ) (law set room at : ℕ) → read_one octets law set room ≡ refuse Short at → at ≡ 8 * length octets
 short-bit octets law set room at e = read-bit octets law set room Short at e
 
-pub ended_by : {u w : Refusal} → Refused u ≡ Refused w → u ≡ w
+pub ended_by : {u w : Refusal} → ◌≡◌ {A = Ending} (Err u) (Err w) → u ≡ w
 ended_by e = cc
 
 -- A walk counts from the refused frame's place
-pub walk-bit : (octets : List ℕ) (law set room : ℕ) (w : Refusal) → (walk_all octets law set room).end ≡ Refused w
+pub walk-bit : (octets : List ℕ) (law set room : ℕ) (w : Refusal) → (walk_all octets law set room).end ≡ Err w
     → BitOf (8 * (length octets - (walk_all octets law set room).place)) w (walk_all octets law set room).bit
 walk-bit octets law set room w e = go (walk_begins octets law set room)
   where
     v : Walked
     v = walk_all octets law set room
 
-    stops : (u : Refusal) → v ≡ stopped (Refused u) 0 0 → ((n : ℕ) → BitOf n u 0) → BitOf (8 * (length octets - v.place)) w v.bit
+    stops : (u : Refusal) → v ≡ stopped (Err u) 0 0 → ((n : ℕ) → BitOf n u 0) → BitOf (8 * (length octets - v.place)) w v.bit
     stops u d h =
         let same : u ≡ w = ended_by (ap (λ (x : Walked). x.end) (sym d) ∙ e) in
         rw d (subst (λ (r : Refusal). BitOf (8 * (length octets - 0)) r 0) same (h (8 * (length octets - 0))))
@@ -128,17 +129,17 @@ walk-bit octets law set room w e = go (walk_begins octets law set room)
     go (no-set l d) = stops Set d (λ n. refl)
     go (too_long l d) = stops Long d (λ n. refl)
 
-pub walk-short : (octets : List ℕ) (law set room : ℕ) → (walk_all octets law set room).end ≡ Refused Short
+pub walk-short : (octets : List ℕ) (law set room : ℕ) → (walk_all octets law set room).end ≡ Err Short
     → (walk_all octets law set room).bit ≡ 8 * (length octets - (walk_all octets law set room).place)
 walk-short octets law set room e = walk-bit octets law set room Short e
 
 -- a walk that ended clean names no bit
-done-bit : {octets : List ℕ} {law set at room : ℕ} {w : Walked} → WalkOf octets law set at room w → w.end ≡ Done → w.bit ≡ 0
+done-bit : {octets : List ℕ} {law set at room : ℕ} {w : Walked} → WalkOf octets law set at room w → w.end ≡ Ok tt → w.bit ≡ 0
 done-bit (ended h) e = refl
 done-bit (refused h d) e = let z : ◌≡◌ {A = ℕ} 0 1 = cc in absurd (omega arith)
 done-bit (delivers h d t) e = done-bit t e
 
-pub walk-done : (octets : List ℕ) (law set room : ℕ) → (walk_all octets law set room).end ≡ Done → (walk_all octets law set room).bit ≡ 0
+pub walk-done : (octets : List ℕ) (law set room : ℕ) → (walk_all octets law set room).end ≡ Ok tt → (walk_all octets law set room).bit ≡ 0
 walk-done octets law set room e = go (walk_begins octets law set room)
   where
     go : Begins octets law set (walk_all octets law set room) → (walk_all octets law set room).bit ≡ 0
@@ -297,10 +298,10 @@ cut_short octets law set room {f} {j} e k h =
 -- they are whole. Between two frames it ends clean; inside one it ends there with SHORT, and the bit is the first that is gone.
 pub data Cut (c : ℕ) (w v : Walked) : Type 0 where
   between : (done rest : List Delivered) → w.frames ≡ done ++ rest
-      → v ≡ record { frames = done; end = Done; place = c; bit = 0 } → Cut c w v
+      → v ≡ record { frames = done; end = Ok tt; place = c; bit = 0 } → Cut c w v
   inside : (done rest : List Delivered) (f : Delivered) → w.frames ≡ done ++ (f ∷ rest) → f.place < c
       → c < f.place + octets_used f.found
-      → v ≡ record { frames = done; end = Refused Short; place = f.place; bit = 8 * (c - f.place) } → Cut c w v
+      → v ≡ record { frames = done; end = Err Short; place = f.place; bit = 8 * (c - f.place) } → Cut c w v
 
 data CutFrom (octets : List ℕ) (law set at room c : ℕ) (w : Walked) : Type 0 where
   walks : (v : Walked) → WalkOf (take c octets) law set at room v → Cut c w v → CutFrom octets law set at room c w
@@ -308,7 +309,7 @@ data CutFrom (octets : List ℕ) (law set at room c : ℕ) (w : Walked) : Type 0
 -- nothing is left behind place `at`
 clean : (octets : List ℕ) (law set at room c : ℕ) (w : Walked) → c ≡ at → c ≤ length octets → CutFrom octets law set at room c w
 clean octets law set at room c w e h =
-    walks (stopped Done at 0) (ended {at = at} (omega (arith, length-take-le c octets h))) (between [] w.frames refl (rw e refl))
+    walks (stopped (Ok _) at 0) (ended {at = at} (omega (arith, length-take-le c octets h))) (between [] w.frames refl (rw e refl))
 
 -- the cut is inside the frame at place `at`
 torn : (octets : List ℕ) (law set at room c : ℕ) {f : Found} {j : ℕ} (rest : Walked) → at < c → c < at + octets_used f → c ≤ length octets
@@ -319,7 +320,7 @@ torn octets law set at room c {f} {j} rest h k l e =
     let s : drop at octets ≡ drop at (take c octets) ++ drop c octets
     = ap (drop at) (sym (take-append-drop c octets)) ∙ drop-append-le at (take c octets) (drop c octets) (omega arith) in
     let d = rw n at (cut_apart (drop at (take c octets)) (drop c octets) law set room (rw s at e) (omega arith)) in
-    walks (stopped (Refused Short) at (8 * (c - at))) (refused {at = at} (omega arith) d)
+    walks (stopped (Err Short) at (8 * (c - at))) (refused {at = at} (omega arith) d)
     (inside [] rest.frames (record { place = at; found = f }) refl h k refl)
 
 -- a frame before the cut
@@ -329,9 +330,9 @@ cut-before f c (inside done rest g e h k d) = inside (f ∷ done) rest g (ap (λ
 
 cut-from : {octets : List ℕ} {law set at room : ℕ} {w : Walked} → WalkOf octets law set at room w → (c : ℕ) → at ≤ c
     → c ≤ w.place → c ≤ length octets → CutFrom octets law set at room c w
-cut-from {octets} {law} {set} {at} {room} (ended h) c x y l = clean octets law set at room c (stopped Done at 0) (omega arith) l
+cut-from {octets} {law} {set} {at} {room} (ended h) c x y l = clean octets law set at room c (stopped (Ok tt) at 0) (omega arith) l
 cut-from {octets} {law} {set} {at} {room} (refused {w = r} {bit = b} h e) c x y l =
-    clean octets law set at room c (stopped (Refused r) at b) (omega arith) l
+    clean octets law set at room c (stopped (Err r) at b) (omega arith) l
 cut-from {octets} {law} {set} {at} {room} (delivers {f = f} {j = j} {rest = rest} h e t) c x y l =
     go (leb c at) refl (leb (at + octets_used f) c) refl (λ k. cut-from t c k y l)
   where

@@ -6,8 +6,8 @@ use mathlib.Core.List.{List}
 use mathlib.Core.Bool.{cond}
 use lib.Dec.{eqb}
 use Rattle.rules.specs.declared.Refusal.TheVariants.{Short, Prefix, Tool, Room, Case, Method, Run, Place, Align, Length, Set, Law, Long}
-use Rattle.rules.specs.declared.Ending.{Ending}
-use Rattle.rules.specs.declared.Ending.TheVariants.{Done, Refused}
+use Rattle.rules.specs.Refusals.{Ending}
+use Rattle.std.proofs.Common.{Ok, Err}
 use Rattle.rules.specs.declared.Frame.{Frame}
 use Rattle.rules.specs.declared.ReadAnswer.{ReadAnswer}
 use Rattle.rules.specs.declared.WalkAnswer.{WalkAnswer}
@@ -22,35 +22,35 @@ use Rattle.rules.specs.Calls.{IsFrame, Reads, Writes, Walks}
 -- how a call ended, by its number and the tool that it names
 abbrev ending_of : ℕ → ℕ → Ending
 ending_of n t =
-    cond (eqb n 1) (Refused Short)
-    (cond (eqb n 2) (Refused Prefix)
-    (cond (eqb n 3) (Refused (Tool t))
-    (cond (eqb n 4) (Refused Room)
-    (cond (eqb n 5) (Refused Case)
-    (cond (eqb n 6) (Refused Method)
-    (cond (eqb n 7) (Refused Run)
-    (cond (eqb n 8) (Refused Place)
-    (cond (eqb n 9) (Refused Align)
-    (cond (eqb n 10) (Refused Length)
-    (cond (eqb n 11) (Refused Set)
-    (cond (eqb n 12) (Refused Law)
-    (cond (eqb n 13) (Refused Long) Done))))))))))))
+    cond (eqb n 1) (Err Short)
+    (cond (eqb n 2) (Err Prefix)
+    (cond (eqb n 3) (Err (Tool t))
+    (cond (eqb n 4) (Err Room)
+    (cond (eqb n 5) (Err Case)
+    (cond (eqb n 6) (Err Method)
+    (cond (eqb n 7) (Err Run)
+    (cond (eqb n 8) (Err Place)
+    (cond (eqb n 9) (Err Align)
+    (cond (eqb n 10) (Err Length)
+    (cond (eqb n 11) (Err Set)
+    (cond (eqb n 12) (Err Law)
+    (cond (eqb n 13) (Err Long) (Ok tt)))))))))))))
 
 told : (e : Ending) → ending_of (number_of e) (tool_named e) ≡ e
-told Done = refl
-told (Refused Short) = refl
-told (Refused Prefix) = refl
-told (Refused (Tool t)) = refl
-told (Refused Room) = refl
-told (Refused Case) = refl
-told (Refused Method) = refl
-told (Refused Run) = refl
-told (Refused Place) = refl
-told (Refused Align) = refl
-told (Refused Length) = refl
-told (Refused Set) = refl
-told (Refused Law) = refl
-told (Refused Long) = refl
+told (Ok _) = refl
+told (Err Short) = refl
+told (Err Prefix) = refl
+told (Err (Tool t)) = refl
+told (Err Room) = refl
+told (Err Case) = refl
+told (Err Method) = refl
+told (Err Run) = refl
+told (Err Place) = refl
+told (Err Align) = refl
+told (Err Length) = refl
+told (Err Set) = refl
+told (Err Law) = refl
+told (Err Long) = refl
 
 pub endings-one-to-one : (a b : Ending) → number_of a ≡ number_of b → tool_named a ≡ tool_named b → a ≡ b
 endings-one-to-one a b n t = sym (told a) ∙ ap₂ ending_of n t ∙ told b

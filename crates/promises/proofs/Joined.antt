@@ -7,8 +7,8 @@ use mathlib.Core.List.{List, ◌++◌}
 use lib.ListN.{length, take, drop, length-append}
 use lib.Seq.{drop-drop, drop_at, drop-append-le, length-take-le, take-length}
 use Rattle.rules.specs.declared.Refusal.TheVariants.{Short}
-use Rattle.rules.specs.declared.Ending.{Ending}
-use Rattle.rules.specs.declared.Ending.TheVariants.{Done, Refused}
+use Rattle.rules.specs.Refusals.{Ending}
+use Rattle.std.proofs.Common.{Ok, Err}
 use Rattle.rules.specs.Reading.{refuse}
 use Rattle.rules.specs.Frame.{octets_used, read_one}
 use Rattle.rules.specs.Walk.{Walked, walk_from, walk_all, samples_kept}
@@ -35,7 +35,7 @@ module _ (a b : List ℕ) (law set : ℕ) where
   behind q = sym (drop-drop q (length a) (a ++ b)) ∙ ap (λ (x : List ℕ). drop q x) (drop_at a b (length a) refl)
 
   -- the frames of the first octets stand, whatever follows
-  ahead : {n at room : ℕ} {w : Walked} → Walks a law set n at room w → w.end ≡ Done → Walks (a ++ b) law set (length w.frames) at room w
+  ahead : {n at room : ℕ} {w : Walked} → Walks a law set n at room w → w.end ≡ Ok tt → Walks (a ++ b) law set (length w.frames) at room w
   ahead last e = last
   ahead (ended h) e = last
   ahead (refused h r) e = let z : ◌≡◌ {A = ℕ} 0 1 = cc in absurd (omega arith)
@@ -86,7 +86,7 @@ pub record Joined (a b : List ℕ) (law set : ℕ) (w : Walked) : Type 0 where
   pub frames : length w.frames ≡ length (walk_of a law set).frames + length (walk_of b law set).frames
   pub samples : samples_kept w.frames ≡ samples_kept (walk_of a law set).frames ++ samples_kept (walk_of b law set).frames
 
-pub joined : (a b : List ℕ) (law set : ℕ) → Walkable (a ++ b) law set → (walk_of a law set).end ≡ Done
+pub joined : (a b : List ℕ) (law set : ℕ) → Walkable (a ++ b) law set → (walk_of a law set).end ≡ Ok tt
     → Joined a b law set (walk_of (a ++ b) law set)
 joined a b law set h e =
     let l = length-append a b in
@@ -96,7 +96,7 @@ joined a b law set h e =
     walk-all a law set (320 * length a) (record { lawful = h.lawful; small = h.small; short = omega (arith, h.short) }) in
     let second : walk_of b law set ≡ walk_from (suc (length b)) b law set 0 (320 * length b) =
     walk-all b law set (320 * length b) (record { lawful = h.lawful; small = h.small; short = omega (arith, h.short) }) in
-    let clean : wa.end ≡ Done = sym (ap (λ (w : Walked). w.end) first) ∙ e in
+    let clean : wa.end ≡ (Ok _) = sym (ap (λ (w : Walked). w.end) first) ∙ e in
     let told = walk-told a law set (suc (length a)) 0 (320 * length a) in
     let n = length wa.frames in
     let few : n ≤ length a = omega (arith, told.some, told.inside) in
@@ -132,7 +132,7 @@ joined a b law set h e =
 -- octets cut where their walk ended
 pub record CutClean (w : List ℕ) (law set : ℕ) (x : List ℕ) : Type 0 where
   pub size : length x ≡ (walk_of w law set).place
-  pub clean : (walk_of x law set).end ≡ Done
+  pub clean : (walk_of x law set).end ≡ Ok tt
   pub frames : (walk_of x law set).frames ≡ (walk_of w law set).frames
 
 pub walk-place : (w : List ℕ) (law set : ℕ) → Walkable w law set → (walk_of w law set).place ≤ length w
@@ -147,7 +147,7 @@ cut-clean w law set h = go (walk_of w law set).end refl
     long : length (take (walk_of w law set).place w) ≡ (walk_of w law set).place
     long = length-take-le (walk_of w law set).place w (walk-place w law set h)
 
-    done : (walk_of w law set).end ≡ Done → (walk_of w law set).place ≡ length w
+    done : (walk_of w law set).end ≡ Ok tt → (walk_of w law set).place ≡ length w
     done e =
         let whole = walk-all w law set (320 * length w) h in
         let t = walk-told w law set (suc (length w)) 0 (320 * length w) in
@@ -156,14 +156,14 @@ cut-clean w law set h = go (walk_of w law set).end refl
         omega (arith, p, t.place, t.inside, t.some, t.whole f (omega (arith, t.some, t.inside)))
 
     go : (e : Ending) → (walk_of w law set).end ≡ e → CutClean w law set (take (walk_of w law set).place w)
-    go Done e =
+    go (Ok tt) e =
         let same : take (walk_of w law set).place w ≡ w = ap (λ (k : ℕ). take k w) (done e) ∙ take-length w in
         record {
           size = long;
           clean = ap (λ (x : List ℕ). (walk_of x law set).end) same ∙ e;
           frames = ap (λ (x : List ℕ). (walk_of x law set).frames) same;
         }
-    go (Refused r) e =
+    go (Err r) e =
         let x = take (walk_of w law set).place w in
         let k = (refused-walk w law set (320 * length w) r h e).kept in
         let ok : Walkable x law set =

@@ -9,8 +9,8 @@ use lib.Dec.{eqb, leb, ltb}
 use borrow.Author.Tests.{eq-eqb}
 use Rattle.rules.specs.declared.Refusal.{Refusal}
 use Rattle.rules.specs.declared.Refusal.TheVariants.{Room, Case, Align, Prefix, Tool, Set, Long}
-use Rattle.rules.specs.declared.Ending.{Ending}
-use Rattle.rules.specs.declared.Ending.TheVariants.{Done, Refused}
+use Rattle.rules.specs.Refusals.{Ending}
+use Rattle.std.proofs.Common.{Ok, Err}
 use Rattle.rules.specs.Tools.{holds, is_set}
 use Rattle.rules.specs.Bits.{bits_of, fill_for, octets_for}
 use Rattle.rules.specs.Reading.{Read, whole, refuse, Reader, and_then, bit, number_from, bits_from, octets_after, filled}
@@ -252,22 +252,22 @@ before-alike at h k = record { frames = (refl, h, k.frames); end = k.end; place 
 walk-beside : (more : ℕ) (octets : List ℕ) (set at room : ℕ)
     → WalksAlike (walk_from more octets 0 set at room) (walk_from more octets 1 set at room)
 unfolding walk_from
-walk-beside zero octets set at room = stops-alike Done at 0
+walk-beside zero octets set at room = stops-alike (Ok tt) at 0
 walk-beside (suc more) octets set at room =
-    test-alike (leb (length octets) at) (stops-alike Done at 0)
+    test-alike (leb (length octets) at) (stops-alike (Ok tt) at 0)
     (onward-alike (reads-alike (drop at octets) set room) (λ a c h.
     let e : walk_from more octets 0 set (at + octets_used a) (room - length a.samples)
     ≡ walk_from more octets 0 set (at + octets_used c) (room - length c.samples) =
     ap₂ (λ (k n : ℕ). walk_from more octets 0 set (at + octets_for k) (room - n)) h.bits h.long in
     before-alike at h (subst (λ (w : Walked). WalksAlike w (walk_from more octets 1 set (at + octets_used c) (room - length c.samples)))
     (sym e) (walk-beside more octets set (at + octets_used c) (room - length c.samples))))
-    (λ w bit. stops-alike (Refused w) at bit))
+    (λ w bit. stops-alike (Err w) at bit))
 
 pub walks-alike : (octets : List ℕ) (set room : ℕ) → WalksAlike (walk_all octets 0 set room) (walk_all octets 1 set room)
 unfolding walk_all
 walks-alike octets set room =
-    test-alike (not (is_set set)) (stops-alike (Refused Set) 0 0)
-    (test-alike (not (leb (length octets) longest)) (stops-alike (Refused Long) 0 0)
+    test-alike (not (is_set set)) (stops-alike (Err Set) 0 0)
+    (test-alike (not (leb (length octets) longest)) (stops-alike (Err Long) 0 0)
     (walk-beside (suc (length octets)) octets set 0 room))
 
 -- as many samples in all

@@ -7,7 +7,7 @@ use mathlib.Core.List.{List, [], ◌∷◌, ◌++◌, append_assoc}
 use mathlib.Core.Bool.{true}
 use lib.ListN.{length, drop, length-append}
 use lib.Seq.{drop-append_seam}
-use Rattle.rules.specs.declared.Ending.TheVariants.{Done}
+use Rattle.std.proofs.Common.{Ok}
 use Rattle.rules.specs.Tools.{Within, is_set, is_writer_set, is_law}
 use Rattle.rules.specs.Bits.{low_bits, octets_for, octets_from, value_from, pack}
 use Rattle.rules.specs.Samples.{mask_of}
@@ -80,7 +80,7 @@ part-some mask reader (frames {set = set} o w f) = (chosen-short mask set o f).s
 
 walk-parts : (law reader : ℕ) → is_law law ≡ true → is_set reader ≡ true → (pre : List ℕ) (at room : ℕ) {ps : List Part} → All reader ps
     → at ≡ length pre → length (samples_all ps) ≤ room → WalkOf (pre ++ stream (mask_of law) ps) law reader at room
-    (record { frames = deliveries (mask_of law) at ps; end = Done; place = at + length (stream (mask_of law) ps); bit = 0 })
+    (record { frames = deliveries (mask_of law) at ps; end = Ok tt; place = at + length (stream (mask_of law) ps); bit = 0 })
 unfolding stream samples_all deliveries
 walk-parts law reader i e pre at room last q r =
     let z : at + 0 ≡ at = omega arith in rw z (ended {at = at} (omega (arith, length-append {A = ℕ} pre [])))
@@ -97,7 +97,7 @@ walk-parts law reader i e pre at room (then {p = p} {ps = ps} m t) q r =
     let on = walk-parts law reader i e (pre ++ o) (at + length o) (room - length (samples_in p)) t (omega (arith, length-append pre o))
     (omega arith) in
     let on' : WalkOf (pre ++ (o ++ rest)) law reader (at + octets_used (found_in mask p)) (room - length (samples_in p))
-    (record { frames = deliveries mask (at + length o) ps; end = Done; place = at + length o + length rest; bit = 0 })
+    (record { frames = deliveries mask (at + length o) ps; end = Ok tt; place = at + length o + length rest; bit = 0 })
     = rw used (rw (append_assoc pre o rest) at on) in
     let first : read_one (drop at (pre ++ (o ++ rest))) law reader room ≡ whole (found_in mask p)
     (8 * octets_for (length (written_for mask p).bits))
@@ -107,7 +107,7 @@ walk-parts law reader i e pre at room (then {p = p} {ps = ps} m t) q r =
 -- Demand 3, of lists: "the frames come back in order, pads as frames of no samples, all octets used"
 pub lists-walked : (law reader room : ℕ) (ps : List Part) → is_law law ≡ true → is_set reader ≡ true → All reader ps
     → length (stream (mask_of law) ps) ≤ longest → length (samples_all ps) ≤ room → walk_all (stream (mask_of law) ps) law reader room
-    ≡ record { frames = deliveries (mask_of law) 0 ps; end = Done; place = length (stream (mask_of law) ps); bit = 0 }
+    ≡ record { frames = deliveries (mask_of law) 0 ps; end = Ok tt; place = length (stream (mask_of law) ps); bit = 0 }
 lists-walked law reader room ps i e a h r =
     let z : 0 + length (stream (mask_of law) ps) ≡ length (stream (mask_of law) ps) = omega arith in
     walk-all-only (record { lawful = i; small = e; short = h }) (rw z at (walk-parts law reader i e [] 0 room a refl r))

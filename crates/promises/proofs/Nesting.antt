@@ -9,7 +9,7 @@ use lib.Dec.{leb, ltb}
 use borrow.Author.Tests.{le-leb, lt-ltb}
 use Rattle.rules.specs.declared.Refusal.{Refusal}
 use Rattle.rules.specs.declared.Refusal.TheVariants.{Tool, Room, Law, Long}
-use Rattle.rules.specs.declared.Ending.TheVariants.{Refused}
+use Rattle.std.proofs.Common.{Err}
 use Rattle.rules.specs.Tools.{holds, Within, is_set, is_law}
 use Rattle.rules.specs.Bits.{bits_of, fill_for}
 use Rattle.rules.specs.Samples.{mask_of}
@@ -98,7 +98,7 @@ end-from {octets} {law} {set} {at} {room} (delivers l e t) = omega (arith, end-f
 -- two walks, by the smaller set and by the larger
 pub data WalksNest (small : ℕ) (w v : Walked) : Type 0 where
   alike : w ≡ v → WalksNest small w v
-  ends : (t : ℕ) → w.end ≡ Refused (Tool t) → holds small t ≡ false → Extends w v → WalksNest small w v
+  ends : (t : ℕ) → w.end ≡ Err (Tool t) → holds small t ≡ false → Extends w v → WalksNest small w v
 
 frame-before : (a at used : ℕ) (f : Found) {w v : Walked} → 1 ≤ used → at + used ≤ w.place → WalksNest a w v
     → WalksNest a (before (record { place = at; found = f }) w) (before (record { place = at; found = f }) v)
@@ -117,10 +117,10 @@ walk-nests octets law a b s t n {at} {room} (ended h) fuel l = alike (sym (walk-
 walk-nests octets law a b s t n {at} {room} (refused {w = w} {bit = bit} h e) fuel l = go (read-nests (drop at octets) law a b room s t n)
   where
     go : Nests a (read_one (drop at octets) law a room) (read_one (drop at octets) law b room)
-        → WalksNest a (stopped (Refused w) at bit) (walk_from fuel octets law b at room)
+        → WalksNest a (stopped (Err w) at bit) (walk_from fuel octets law b at room)
     go (alike d) = alike (sym (walk-only {set = b} {room = room} (refused {at = at} h (sym d ∙ e)) fuel l))
     go (ends x d y) =
-        ends x (ap Refused (same-refusal (sym e ∙ d))) y (record {
+        ends x (ap Err (same-refusal (sym e ∙ d))) y (record {
           rest = (walk_from fuel octets law b at room).frames;
           frames = refl;
           early = nothing;
@@ -138,7 +138,7 @@ walk-nests octets law a b s t n {at} {room} (delivers {f = f} {j = j} {rest = w}
     other (ends x d y) = no-refusal (sym d ∙ e)
 
 test-walks : (a : ℕ) (t : Bool) (r : Refusal) (w v : Walked) → WalksNest a w v
-    → WalksNest a (cond t (stopped (Refused r) 0 0) w) (cond t (stopped (Refused r) 0 0) v)
+    → WalksNest a (cond t (stopped (Err r) 0 0) w) (cond t (stopped (Err r) 0 0) v)
 test-walks a true r w v h = alike refl
 test-walks a false r w v h = h
 
@@ -151,7 +151,7 @@ walks-nest octets law a b room s t n =
     let w = walk_from (suc (length octets)) octets law a 0 room in
     let v = walk_from (suc (length octets)) octets law b 0 room in
     let long = not (leb (length octets) longest) in
-    rw (s, t) (test-walks a (not (is_law law)) Law (cond long (stopped (Refused Long) 0 0) w) (cond long (stopped (Refused Long) 0 0) v)
+    rw (s, t) (test-walks a (not (is_law law)) Law (cond long (stopped (Err Long) 0 0) w) (cond long (stopped (Err Long) 0 0) v)
     (test-walks a long Long w v
     (walk-nests octets law a b s t n (walk-of (suc (length octets)) octets law a 0 room (omega arith)) (suc (length octets))
     (omega arith))))

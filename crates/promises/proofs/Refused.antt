@@ -12,7 +12,7 @@ use lib.Seq.{length-take-le, drop-append-le}
 use Rattle.rules.specs.declared.Refusal.{Refusal}
 use Rattle.rules.specs.declared.Refusal.TheVariants.{Law, Set, Long}
 use Rattle.rules.specs.Tools.{is_law, is_set}
-use Rattle.rules.specs.declared.Ending.TheVariants.{Done, Refused}
+use Rattle.std.proofs.Common.{Ok, Err}
 use Rattle.rules.specs.declared.Frame.{Frame}
 use Rattle.rules.specs.declared.ReadAnswer.{ReadAnswer}
 use Rattle.rules.specs.declared.WalkAnswer.{WalkAnswer}
@@ -31,7 +31,7 @@ use Rattle.promises.proofs.Walks.{WalkOf, ended, refused, delivers, uses, Walkab
 record Broken (octets : List ℕ) (law set at room : ℕ) (r : Refusal) (w : Walked) : Type 0 where
   from : at ≤ w.place
   inside : w.place < length octets
-  kept : WalkOf (take w.place octets) law set at room (record { frames = w.frames; end = Done; place = w.place; bit = 0 })
+  kept : WalkOf (take w.place octets) law set at room (record { frames = w.frames; end = Ok tt; place = w.place; bit = 0 })
   rest : read_one (drop w.place octets) law set (room - length (samples_kept w.frames)) ≡ refuse r w.bit
   octets-kept : at + octets_kept w.frames ≡ w.place
 
@@ -44,7 +44,7 @@ cut_at octets law set at p room {f} h k e =
     = ap (drop at) (sym (take-append-drop p octets)) ∙ drop-append-le at (take p octets) (drop p octets) (omega arith) in
     cut (drop at (take p octets)) (drop p octets) law set room (rw s at e) (omega (arith, length-drop at (take p octets)))
 
-broken : {octets : List ℕ} {law set at room : ℕ} {w : Walked} (r : Refusal) → WalkOf octets law set at room w → w.end ≡ Refused r
+broken : {octets : List ℕ} {law set at room : ℕ} {w : Walked} (r : Refusal) → WalkOf octets law set at room w → w.end ≡ Err r
     → Broken octets law set at room r w
 unfolding octets_kept samples_kept
 broken r (ended h) e = let z : ◌≡◌ {A = ℕ} 0 1 = cc in absurd (omega arith)
@@ -76,12 +76,12 @@ broken {octets} {law} {set} {at} {room} r (delivers {f = f} {rest = w} h d t) e 
 -- Demand 1, of a walk: p is the place of the refused frame
 pub record RefusedAt (octets : List ℕ) (law set room : ℕ) (r : Refusal) (w : Walked) : Type 0 where
   pub inside : w.place < length octets
-  pub kept : walk_all (take w.place octets) law set room ≡ record { frames = w.frames; end = Done; place = w.place; bit = 0 }
+  pub kept : walk_all (take w.place octets) law set room ≡ record { frames = w.frames; end = Ok tt; place = w.place; bit = 0 }
   pub rest : read_one (drop w.place octets) law set (room - length (samples_kept w.frames)) ≡ refuse r w.bit
   pub used : octets_kept w.frames ≡ w.place
 
 pub refused-walk : (octets : List ℕ) (law set room : ℕ) (r : Refusal) → Walkable octets law set
-    → (walk_all octets law set room).end ≡ Refused r → RefusedAt octets law set room r (walk_all octets law set room)
+    → (walk_all octets law set room).end ≡ Err r → RefusedAt octets law set room r (walk_all octets law set room)
 refused-walk octets law set room r t e =
     let w = walk_all octets law set room in
     let b = broken r (walk-all-of octets law set room t) e in
@@ -96,17 +96,17 @@ refused-walk octets law set room r t e =
 -- "LAW, SET and LONG refuse a walk before any frame, with place 0."; every other walk begins
 pub data Begins (octets : List ℕ) (law set : ℕ) (w : Walked) : Type 0 where
   walkable : Walkable octets law set → Begins octets law set w
-  unlawful : is_law law ≡ false → w ≡ stopped (Refused Law) 0 0 → Begins octets law set w
-  no-set : is_set set ≡ false → w ≡ stopped (Refused Set) 0 0 → Begins octets law set w
-  too_long : longest < length octets → w ≡ stopped (Refused Long) 0 0 → Begins octets law set w
+  unlawful : is_law law ≡ false → w ≡ stopped (Err Law) 0 0 → Begins octets law set w
+  no-set : is_set set ≡ false → w ≡ stopped (Err Set) 0 0 → Begins octets law set w
+  too_long : longest < length octets → w ≡ stopped (Err Long) 0 0 → Begins octets law set w
 
 pub walk_begins : (octets : List ℕ) (law set room : ℕ) → Begins octets law set (walk_all octets law set room)
 unfolding walk_all
 walk_begins octets law set room = go (is_law law) (is_set set) (leb (length octets) longest) refl refl refl
   where
     go : (a b c : Bool) → is_law law ≡ a → is_set set ≡ b → leb (length octets) longest ≡ c
-        → Begins octets law set (cond (not a) (stopped (Refused Law) 0 0) (cond (not b) (stopped (Refused Set) 0 0)
-        (cond (not c) (stopped (Refused Long) 0 0) (walk_from (suc (length octets)) octets law set 0 room))))
+        → Begins octets law set (cond (not a) (stopped (Err Law) 0 0) (cond (not b) (stopped (Err Set) 0 0)
+        (cond (not c) (stopped (Err Long) 0 0) (walk_from (suc (length octets)) octets law set 0 room))))
     go false b c d e f = unlawful d refl
     go true false c d e f = no-set e refl
     go true true false d e f = too_long (leb-false (length octets) longest f) refl
@@ -115,7 +115,7 @@ walk_begins octets law set room = go (is_law law) (is_set set) (leb (length octe
 -- Demand 1, of a single call: "writes nothing and reports 0 samples, 0 octets used, 0 bits and tool 0, save that TOOL gives the tool"
 -- but for the refusal's bit
 pub record Nothing (w : Refusal) (at : ℕ) (r : ReadAnswer) (out out' : List ℕ) : Type 0 where
-  pub end : r.end ≡ Refused w
+  pub end : r.end ≡ Err w
   pub len : r.frame.len ≡ 0
   pub samples : r.frame.samples ≡ replicate 320 0
   pub octets : r.octets ≡ 0
@@ -140,7 +140,7 @@ refused-read octets law set out out' r w at e c =
     }
 
 pub record NothingWritten (w : Refusal) (r : WriteAnswer) (out out' : List ℕ) : Type 0 where
-  pub end : r.end ≡ Refused w
+  pub end : r.end ≡ Err w
   pub octets : r.octets ≡ 0
   pub bits : r.bits ≡ 0
   pub tool : r.tool ≡ 0

@@ -6,7 +6,7 @@ use mathlib.Core.List.{List, [], ◌++◌, append-nil}
 use mathlib.Core.Bool.{true, ◌||◌}
 use lib.ListN.{length, take, drop}
 use lib.Seq.{take_at}
-use Rattle.rules.specs.declared.Ending.TheVariants.{Done}
+use Rattle.std.proofs.Common.{Ok}
 use Rattle.rules.specs.declared.Frame.{Frame}
 use Rattle.rules.specs.declared.ReadAnswer.{ReadAnswer}
 use Rattle.rules.specs.declared.WriteAnswer.{WriteAnswer}
@@ -24,7 +24,7 @@ use Rattle.promises.proofs.Written.{back, wrote_by, frames-of, tool-held}
 
 -- the frame is restored, with the same octets, bits and tool, and its samples stand at the start of the reader's output
 pub record Restored (f : Frame) (w : WriteAnswer) (into into' : List ℕ) (r : ReadAnswer) : Type 0 where
-  pub end : r.end ≡ Done
+  pub end : r.end ≡ Ok tt
   pub frame : IsFrame (take f.len f.samples) r.frame
   pub octets : r.octets ≡ w.octets
   pub bits : r.bits ≡ w.bits
@@ -35,12 +35,12 @@ pub record Restored (f : Frame) (w : WriteAnswer) (into into' : List ℕ) (r : R
 data WellWritten (m : Write) : Type 0 where
   well : (v : Written) → m ≡ wrote v → WellWritten m
 
-well-written : (m : Write) → write_end m ≡ Done → WellWritten m
+well-written : (m : Write) → write_end m ≡ Ok tt → WellWritten m
 well-written (wrote v) e = well v refl
 well-written (declined w) e = let z : ◌≡◌ {A = ℕ} 0 1 = cc in absurd (omega arith)
 
 pub restored : (f : Frame) (law set : ℕ) (out out' : List ℕ) (w : WriteAnswer) → f.len ≤ length f.samples → Below 256 f.samples
-    → WriteFrame f law set out out' w → w.end ≡ Done
+    → WriteFrame f law set out out' w → w.end ≡ Ok tt
     → (reader : ℕ) (more into into' : List ℕ) (r : ReadAnswer) → is_set reader ≡ true → (1 ≤ w.tool → holds reader w.tool ≡ true)
     → f.len ≤ length into → ReadFrame (take w.octets out' ++ more) law reader into into' r → Restored f w into into' r
 restored f law set out out' w h b c e reader more into into' r i held room d =
@@ -67,7 +67,7 @@ restored f law set out out' w h b c e reader more into into' r i held room d =
 
 -- by the writer's own set, from the written octets alone
 pub returned : (f : Frame) (law set : ℕ) (out out' : List ℕ) (w : WriteAnswer) → length f.samples ≡ 320 → Below 256 f.samples
-    → WriteFrame f law set out out' w → w.end ≡ Done
+    → WriteFrame f law set out out' w → w.end ≡ Ok tt
     → (into into' : List ℕ) (r : ReadAnswer) → f.len ≤ length into → ReadFrame (take w.octets out') law set into into' r
     → Restored f w into into' r
 returned f law set out out' w s b c e into into' r room d =

@@ -8,7 +8,7 @@ use lib.ListN.{length, drop, length-drop}
 use lib.Dec.{leb}
 use borrow.Author.Tests.{le-leb, lt-leb, leb-true, leb-false}
 use Rattle.rules.specs.declared.Refusal.{Refusal}
-use Rattle.rules.specs.declared.Ending.TheVariants.{Done, Refused}
+use Rattle.std.proofs.Common.{Ok, Err}
 use Rattle.rules.specs.Tools.{is_set, is_law}
 use Rattle.rules.specs.Reading.{Read, whole, refuse}
 use Rattle.rules.specs.Frame.{Found, octets_used, read_one}
@@ -17,9 +17,9 @@ use Rattle.rules.proofs.Accepted.{read-uses}
 
 -- the walk from place `at` on, with so much room
 pub data WalkOf (octets : List ℕ) (law set : ℕ) : ℕ → ℕ → Walked → Type 0 where
-  ended : {at room : ℕ} → length octets ≤ at → WalkOf octets law set at room (stopped Done at 0)
+  ended : {at room : ℕ} → length octets ≤ at → WalkOf octets law set at room (stopped (Ok tt) at 0)
   refused : {at room : ℕ} {w : Refusal} {bit : ℕ} → at < length octets → read_one (drop at octets) law set room ≡ refuse w bit
-      → WalkOf octets law set at room (stopped (Refused w) at bit)
+      → WalkOf octets law set at room (stopped (Err w) at bit)
   delivers : {at room : ℕ} {f : Found} {j : ℕ} {rest : Walked} → at < length octets → read_one (drop at octets) law set room ≡ whole f j
       → WalkOf octets law set (at + octets_used f) (room - length f.samples) rest
       → WalkOf octets law set at room (before (record { place = at; found = f }) rest)
@@ -43,7 +43,7 @@ walk-of (suc fuel) octets law set at room h =
     next f = before (record { place = at; found = f }) (walk_from fuel octets law set (at + octets_used f) (room - length f.samples))
 
     stop : Refusal → ℕ → Walked
-    stop w bit = stopped (Refused w) at bit
+    stop w bit = stopped (Err w) at bit
 
     Later : Type 0
     Later = (f : Found) → at < at + octets_used f → WalkOf octets law set (at + octets_used f) (room - length f.samples)
@@ -55,7 +55,7 @@ walk-of (suc fuel) octets law set at room h =
     one (refuse w bit) e l later = refused l e
 
     start : (b : Bool) → leb (length octets) at ≡ b → Later
-        → WalkOf octets law set at room (cond b (stopped Done at 0) (onward (read_one (drop at octets) law set room) next stop))
+        → WalkOf octets law set at room (cond b (stopped (Ok tt) at 0) (onward (read_one (drop at octets) law set room) next stop))
     start true e later = ended (leb-true (length octets) at e)
     start false e later = one (read_one (drop at octets) law set room) refl (leb-false (length octets) at e) later
 

@@ -1,11 +1,12 @@
 -- What a reader's answer tells a caller, once it is known which of the two it is.
-use Prim.Native.Nat.{ℕ, ◌≤◌}
+use Prim.Native.Nat.{ℕ, ◌≤◌, zero-le}
 use mathlib.Core.Path.{◌≡◌, sym, ◌∙◌, ap}
-use Rattle.rules.specs.declared.Refusal.{Refusal}
+use Rattle.std.specs.Result.{IsErrAnd}
+use Rattle.std.proofs.Common.{Result, Ok, Err}
+use Rattle.std.proofs.lemmas.Result.{err_from_is_err_and}
 use Rattle.rules.specs.Reading.{Read, whole, refuse}
-use Rattle.read_bits.specs.declared.Outcome.{Outcome}
-use Rattle.read_bits.specs.declared.Outcome.TheVariants.{Got, Refused}
-use Rattle.read_bits.specs.Outcomes.{as_read, value_of, next_of, Reads}
+use Rattle.read_bits.specs.declared.Stop.{Stop}
+use Rattle.read_bits.specs.Outcomes.{Outcome, as_read, value_of, next_of, Reads}
 
 pub record ReadAs (found : Read ℕ) (most far v j : ℕ) : Type 0 where
   pub says : found ≡ whole v j
@@ -13,7 +14,7 @@ pub record ReadAs (found : Read ℕ) (most far v j : ℕ) : Type 0 where
   pub next : j ≤ far
 
 module _ {found : Read ℕ} {most far : ℕ} {r : Outcome} (t : Reads found most far r) where
-  pub told : {v next : ℕ} → r ≡ Got v next → ReadAs found most far v next
+  pub told : {p : ℕ × ℕ} → r ≡ Ok p → ReadAs found most far p.0 p.1
   told e =
       record {
         says = sym t.says ∙ ap as_read e;
@@ -21,5 +22,13 @@ module _ {found : Read ℕ} {most far : ℕ} {r : Outcome} (t : Reads found most
         next = rw (ap next_of e) at t.next;
       }
 
-  pub refused : {w : Refusal} {at : ℕ} → r ≡ Refused w at → found ≡ refuse w at
+  pub refused : {s : Stop} → r ≡ Err s → found ≡ refuse s.why s.bit
   refused e = sym t.says ∙ ap as_read e
+
+-- the answer of a refused reading
+pub stopped : {found : Read ℕ} {most far : ℕ} {s : Stop} → found ≡ refuse s.why s.bit → Reads found most far (Err s)
+stopped e = record { says = sym e; value = zero-le; next = zero-le }
+
+-- a `?` hands the refusal on as it is
+pub handed_on : {A : Type 0} (r : Result A Stop) {s : Stop} → IsErrAnd r (λ y. y ≡ s) → r ≡ Err s
+handed_on r h = let p = err_from_is_err_and r h in rw (p.1, p.2)

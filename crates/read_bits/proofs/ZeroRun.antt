@@ -12,9 +12,7 @@ use Rattle.rules.specs.Bits.{bits_of}
 use Rattle.rules.specs.Reading.{whole, refuse}
 use Rattle.rules.specs.Runs.{zeros_from}
 use Rattle.rules.proofs.Octets.{length-bits_of}
-use Rattle.read_bits.specs.declared.Outcome.{Outcome}
-use Rattle.read_bits.specs.declared.Outcome.TheVariants.{Got, Refused}
-use Rattle.read_bits.specs.Outcomes.{Reads}
+use Rattle.read_bits.specs.Outcomes.{Outcome, got, stop, Reads}
 use Rattle.read_bits.specs.Windows.{Ahead}
 use Rattle.read_bits.proofs.Leading.{Lead, lead_zero, lead-one}
 use Rattle.read_bits.proofs.OneBit.{bit-there, bit-missing}
@@ -71,7 +69,7 @@ module _ (s : List ℕ) (at n k : ℕ) {w z : ℕ} (a : Ahead 32 (bits_of s) (at
   abbrev Zeros-read : Outcome → Type 0
   Zeros-read r = Reads (zeros_from at 0 (n + 1) (bits_of s) at) n (at + n + 1) r
 
-  run-read : zeros_from at k (n + 1 - k) (bits_of s) (at + k) ≡ refuse Run at → Zeros-read (Refused Run at)
+  run-read : zeros_from at k (n + 1 - k) (bits_of s) (at + k) ≡ refuse Run at → Zeros-read (stop Run at)
   run-read e = record { says = sym (so_far ∙ e); value = zero-le; next = zero-le }
 
   none_before : (i : ℕ) → i < z → get_or (bits_of s) (at + k + i) 0 ≡ 0
@@ -83,7 +81,7 @@ module _ (s : List ℕ) (at n k : ℕ) {w z : ℕ} (a : Ahead 32 (bits_of s) (at
         let e : at + k + z ≡ at + (k + z) = omega arith in
         ap (λ (i : ℕ). get_or (bits_of s) i 0) (sym e) ∙ sym (a.same z h) ∙ lead-one l h
 
-    pub window-one : k + z ≤ n → Zeros-read (Got (k + z) (at + k + z + 1))
+    pub window-one : k + z ≤ n → Zeros-read (got (k + z) (at + k + z + 1))
     window-one m =
         let e : at + (k + z) ≡ at + k + z = omega arith in
         let t = one-there s (at + (k + z)) one-after in
@@ -91,7 +89,7 @@ module _ (s : List ℕ) (at n k : ℕ) {w z : ℕ} (a : Ahead 32 (bits_of s) (at
         ∙ ap (λ (x : ℕ). whole (k + z) (x + 1)) e in
         record { says = sym (so_far ∙ one); value = m; next = omega arith }
 
-    pub window-run : k ≤ n → n < k + z → Zeros-read (Refused Run at)
+    pub window-run : k ≤ n → n < k + z → Zeros-read (stop Run at)
     window-run m p =
         let t = one-there s (at + (k + z)) one-after in
         run-read (zeros-skip s at n k (n + 1 - k) (omega arith) (omega arith) (λ i g. none_before i (omega arith))
@@ -100,7 +98,7 @@ module _ (s : List ℕ) (at n k : ℕ) {w z : ℕ} (a : Ahead 32 (bits_of s) (at
   -- no one in the window
   module _ (h : 32 ≤ z) (m : k ≤ n) where
     pub window-short : {end : ℕ} → end ≡ max (at + k) (8 * length s) → length s ≤ (at + k + (n - k)) / 8 → length s ≤ (at + k + 31) / 8
-        → Zeros-read (Refused Short end)
+        → Zeros-read (stop Short end)
     window-short {end} x p q =
         record { says = sym (so_far ∙ go (dec_le (at + k) (8 * length s))); value = zero-le; next = zero-le }
       where
@@ -116,7 +114,7 @@ module _ (s : List ℕ) (at n k : ℕ) {w z : ℕ} (a : Ahead 32 (bits_of s) (at
             zeros-skip s at n k j (omega arith) (omega arith) (λ i g. none_before i (omega arith))
             ∙ zeros-short s at n (k + j) (omega arith) (omega arith) ∙ ap (λ (x : ℕ). refuse Short x) (sym e)
 
-    pub window-all-run : n < k + 32 → (at + n) / 8 < length s → Zeros-read (Refused Run at)
+    pub window-all-run : n < k + 32 → (at + n) / 8 < length s → Zeros-read (stop Run at)
     window-all-run p t =
         run-read (zeros-skip s at n k (n + 1 - k) (omega arith) (omega arith) (λ i g. none_before i (omega arith))
         ∙ zeros-run s at n (k + (n + 1 - k)) (omega arith))

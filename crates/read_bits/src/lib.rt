@@ -13,25 +13,22 @@ ghost use Rattle.read_bits.specs.Windows.{Ahead, Holds, run_in};
 
 use rules::Refusal;
 
-// A number and the next place, or the refusal and its bit.
-#[derive(Drop)]
-pub enum Outcome {
-    Got(usize, usize),
-    Refused(Refusal, usize),
+// What refuses a reading, and its bit.
+#[derive(Clone, Copy)]
+pub struct Stop {
+    pub why: Refusal,
+    pub bit: usize,
 }
 
-fn wide(octet: u8) -> usize
-    ensures { result ≡ octet }
-{
-    octet as usize
-}
+// A number and the next place.
+pub type Outcome = Result<(usize, usize), Stop>;
 
 // The bit at a place that the octets have.
 pub fn bit_at(octets: &[u8], at: usize) -> usize
     requires { at / 8 < length octets.now }
     ensures { (result ≡ get_or (bits_of octets.now) at 0) × (result < 2) }
 {
-    (wide(octets[at / 8]) >> (7 - at % 8)) % 2
+    (usize::from(octets[at / 8]) >> (7 - at % 8)) % 2
 }
 
 // One bit; one that the octets do not have is SHORT.
@@ -40,43 +37,38 @@ pub fn bit(octets: &[u8], at: usize) -> Outcome
     ensures { Reads (one_bit (bits_of octets.now) at) 1 (at + 1) result }
 {
     if octets.len() <= at / 8 {
-        return Outcome::Refused(Refusal::Short, at);
+        Err(Stop {
+            why: Refusal::Short,
+            bit: at,
+        })
+    } else {
+        Ok((bit_at(octets, at), at + 1))
     }
-    Outcome::Got(bit_at(octets, at), at + 1)
 }
 
 // An octet, or 0 past the last one.
 fn octet_at(octets: &[u8], i: usize) -> u8
     ensures { result ≡ get_or octets.now i 0 }
 {
-    if octets.len() <= i {
-        return 0;
-    }
-    octets[i]
-}
-
-fn word(octet: u8) -> u32
-    ensures { result ≡ octet }
-{
-    octet as u32
+    octets.get(i).copied().unwrap_or(0)
 }
 
 // Four octets as one number; the compiler reads them at once.
 fn four(a: u8, b: u8, c: u8, d: u8) -> u32
     ensures { result ≡ 256 * (256 * (256 * a + b) + c) + d }
 {
-    16777216 * word(a) + 65536 * word(b) + 256 * word(c) + word(d)
+    16777216 * u32::from(a) + 65536 * u32::from(b) + 256 * u32::from(c) + u32::from(d)
 }
 
 // Five octets as one number.
 fn five(a: u8, b: u8, c: u8, d: u8, e: u8) -> usize
     ensures { result ≡ 256 * (256 * (256 * (256 * a + b) + c) + d) + e }
 {
-    let high = four(a, b, c, d);
-    256 * (high as usize) + wide(e)
+    256 * four(a, b, c, d) as usize + usize::from(e)
 }
 
-// The bits of the five octets from octet i on; an octet that is missing counts 0.
+// The bits of the five octets from octet i on; an octet that is missing counts 0. Inside the octets none is asked whether it is
+// there: every number is read so.
 fn window_at(octets: &[u8], i: usize) -> usize
     requires { i ≤ 2 ^ 40 }
     ensures { Ahead 40 (bits_of octets.now) (8 * i) result }
@@ -104,19 +96,7 @@ pub fn missing(octets: &[u8], at: usize) -> usize
     requires { (at ≤ 2 ^ 41) × (length octets.now ≤ 2 ^ 41) }
     ensures { result ≡ max at (8 * length octets.now) }
 {
-    if octets.len() <= at / 8 {
-        return at;
-    }
-    8 * octets.len()
-}
-
-fn least(a: usize, b: usize) -> usize
-    ensures { result ≡ min a b }
-{
-    if a < b {
-        return a;
-    }
-    b
+    at.max(8 * octets.len())
 }
 
 // A window of 32 bits from a place on; a bit that is missing counts 0.
@@ -129,6 +109,7 @@ pub fn next_bits(octets: &[u8], at: usize) -> u32
 
 // "Reading zeros ends at the first one bit, or at zero N + 1, which is RUN; octets that end sooner are SHORT."
 // A window's leading zeros are counted at once. Where it has no one, the last bit that counts tells the two refusals apart.
+// No `for`: a turn is a window, and whether another is read is known by it.
 pub fn zeros(octets: &[u8], at: usize, n: usize) -> Outcome
     requires { (at ≤ 2 ^ 40) × (n ≤ 320) }
     ensures { Reads (zeros_from at 0 (n + 1) (bits_of octets.now) at) n (at + n + 1) result }
@@ -139,15 +120,24 @@ pub fn zeros(octets: &[u8], at: usize, n: usize) -> Outcome
         let more = u32::leading_zeros(next_bits(octets, place)) as usize;
         if more < 32 {
             if n < k + more {
-                break Outcome::Refused(Refusal::Run, at);
+                break Err(Stop {
+                    why: Refusal::Run,
+                    bit: at,
+                });
             }
-            break Outcome::Got(k + more, place + more + 1);
+            break Ok((k + more, place + more + 1));
         }
-        if octets.len() <= (place + least(31, n - k)) / 8 {
-            break Outcome::Refused(Refusal::Short, missing(octets, place));
+        if octets.len() <= (place + (n - k).min(31)) / 8 {
+            break Err(Stop {
+                why: Refusal::Short,
+                bit: missing(octets, place),
+            });
         }
         if n < k + 32 {
-            break Outcome::Refused(Refusal::Run, at);
+            break Err(Stop {
+                why: Refusal::Run,
+                bit: at,
+            });
         }
         k += 32;
     }
@@ -159,15 +149,18 @@ pub fn number(octets: &[u8], at: usize, n: usize) -> Outcome
     ensures { Reads (number_from 0 n (bits_of octets.now) at) (2 ^ n - 1) (at + n) result }
 {
     if n == 0 {
-        return Outcome::Got(0, at);
+        return Ok((0, at));
     }
     let end = at + n;
     if octets.len() < (end + 7) / 8 {
-        return Outcome::Refused(Refusal::Short, missing(octets, at));
+        return Err(Stop {
+            why: Refusal::Short,
+            bit: missing(octets, at),
+        });
     }
     let window = window_at(octets, at / 8);
     let past = 40 - (at % 8 + n);
-    Outcome::Got((window >> past) % (1 << n), end)
+    Ok(((window >> past) % (1 << n), end))
 }
 
 // "k zeros and a 1, then the low S bits of v"; N is the frame's length.
@@ -175,26 +168,16 @@ pub fn rice(octets: &[u8], at: usize, n: usize, s: usize) -> Outcome
     requires { (at ≤ 2 ^ 39) × (n ≤ 320) × (s ≤ 9) }
     ensures { Reads (rice_code n s (bits_of octets.now) at) 200000 (at + 330) result }
 {
-    match zeros(octets, at, n) {
-        Outcome::Refused(why, place) => Outcome::Refused(why, place),
-        Outcome::Got(k, next) => match number(octets, next, s) {
-            Outcome::Refused(why, place) => Outcome::Refused(why, place),
-            Outcome::Got(low, end) => Outcome::Got((k << s) + low, end),
-        },
-    }
-}
-
-fn long(four: u32) -> u64
-    ensures { result ≡ four }
-{
-    four as u64
+    let (k, next) = zeros(octets, at, n)?;
+    let (low, end) = number(octets, next, s)?;
+    Ok(((k << s) + low, end))
 }
 
 // Eight octets as one number, from those of the first four and of the last four; the compiler reads all eight at once.
 fn eight(high: u32, low: u32) -> u64
     ensures { result ≡ 4294967296 * high + low }
 {
-    4294967296 * long(high) + long(low)
+    4294967296 * u64::from(high) + u64::from(low)
 }
 
 // The eight octets from octet i on, all there.
@@ -207,7 +190,7 @@ fn whole_word(octets: &[u8], i: usize) -> u64
     eight(high, low)
 }
 
-// The same, where an octet that is missing counts 0.
+// The same, where an octet that is missing counts 0: only for the last ones, so that `whole_word` asks no octet whether it is there.
 fn part_word(octets: &[u8], i: usize) -> u64
     requires { i ≤ 2 ^ 40 }
     ensures { Ahead 64 (bits_of octets.now) (8 * i) result }
@@ -228,16 +211,11 @@ fn part_word(octets: &[u8], i: usize) -> u64
 }
 
 // Up to 64 bits from a place on, highest first: the first `good` of the word are the octets' own.
+// No Option: where `good` is 0 it is a word of no bits, and is used like any other.
 #[derive(Drop)]
 pub struct Held {
     pub word: u64,
     pub good: usize,
-}
-
-fn nothing() -> Held
-    ensures { (result.word ≡ 0) × (result.good ≡ 0) }
-{
-    Held { word: 0, good: 0 }
 }
 
 // The last bits of the octets: out of their last eight, or of all where they are fewer.
@@ -248,7 +226,7 @@ fn hold_last(octets: &[u8], at: usize, n: usize) -> Held
     let i = at / 8;
     let size = octets.len();
     if size <= i {
-        return nothing();
+        return Held { word: 0, good: 0 };
     }
     if size < 8 {
         return Held {
@@ -270,7 +248,7 @@ pub fn hold(octets: &[u8], at: usize, n: usize) -> Held
 {
     let i = at / 8;
     if n < 32 {
-        return nothing();
+        return Held { word: 0, good: 0 };
     }
     if octets.len() < i + 8 {
         return hold_last(octets, at, n);

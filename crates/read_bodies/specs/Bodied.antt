@@ -1,14 +1,12 @@
 -- What the readers of bodies leave in the lent samples, and how the reading ended.
 use Rattle.std.specs.Prelude.{ℕ, ◌≤◌, ◌≡◌, List, ◌++◌, length, drop}
 use Rattle.rules.specs.Reading.{Read, whole, refuse}
-use Rattle.read_bits.specs.declared.Outcome.{Outcome}
-use Rattle.read_bits.specs.declared.Outcome.TheVariants.{Got, Refused}
-use Rattle.read_bits.specs.Outcomes.{next_of}
+use Rattle.read_bits.specs.Outcomes.{Outcome, got, stop, next_of}
 
 -- the number of samples and the next place, or the refusal and its bit
 abbrev pub end_of : Read (List ℕ) → Outcome
-end_of (whole s next) = Got (length s) next
-end_of (refuse w at) = Refused w at
+end_of (whole s next) = got (length s) next
+end_of (refuse w at) = stop w at
 
 -- the lent samples before and after: the definition's, then what was lent; a refused body leaves any 320
 abbrev pub Leaves : Read (List ℕ) → List ℕ → List ℕ → Type 0

@@ -1,5 +1,6 @@
 // The bodies of tools 5 and 6, each into a lent frame buffer; what a refused body leaves there is not looked at.
 // Those of 1 to 4 are in `plain`.
+// The buffer is an array with a length beside: memory is fixed, and contracts speak of the first n samples and of the rest as lent.
 #![tactic(auto)]
 
 pub mod plain;
@@ -10,7 +11,7 @@ ghost use Rattle.rules.specs.Zeros.{binary as bits_as_zeros, plus_minus, zero_of
 ghost use Rattle.read_bits.specs.Outcomes.{Reads};
 ghost use Rattle.read_bodies.specs.Bodied.{FillsBody};
 
-use read_bits::Outcome;
+use read_bits::{Outcome, Stop};
 use rules::Refusal;
 
 // A zero by its flag: the mark is 1 where minus is the common kind. Plus zero is 128 and the law's mask, minus zero the mask.
@@ -18,10 +19,7 @@ fn zero_of(flag: u8, mark: u8, mask: u8) -> u8
     requires { mask < 128 }
     ensures { result ≡ zero_of mask mark flag }
 {
-    if flag == mark {
-        return 128 + mask;
-    }
-    mask
+    if flag == mark { 128 + mask } else { mask }
 }
 
 // "Binary: N bits, 1 is minus zero."
@@ -32,10 +30,8 @@ pub fn binary(octets: &[u8], at: usize, n: usize, mask: u8, samples: &mut [u8; 3
 {
     let common = zero_of(0, 0, mask);
     let other = zero_of(1, 0, mask);
-    match read_runs::straight(octets, at, n, samples, common, other) {
-        Outcome::Refused(why, bit) => Outcome::Refused(why, bit),
-        Outcome::Got(_, next) => Outcome::Got(n, next),
-    }
+    let (_, next) = read_runs::straight(octets, at, n, samples, common, other)?;
+    Ok((n, next))
 }
 
 // The code of S, by the table of codes: what the next bits begin with, SHORT where they are not all there.
@@ -46,9 +42,13 @@ fn code_of_s(octets: &[u8], at: usize, n: usize) -> Outcome
     let found = s_codes::s_in(n, read_bits::next_bits(octets, at));
     let end = at + found.bits;
     if octets.len() < (end + 7) / 8 {
-        return Outcome::Refused(Refusal::Short, read_bits::missing(octets, at));
+        Err(Stop {
+            why: Refusal::Short,
+            bit: read_bits::missing(octets, at),
+        })
+    } else {
+        Ok((found.s, end))
     }
-    Outcome::Got(found.s, end)
 }
 
 // "Tool 6: code of S, then runs over N."
@@ -66,13 +66,7 @@ pub fn plus_minus(
 {
     let common = zero_of(0, mark, mask);
     let other = zero_of(1, mark, mask);
-    match code_of_s(octets, at, n) {
-        Outcome::Refused(why, bit) => Outcome::Refused(why, bit),
-        Outcome::Got(s, first) => {
-            match read_runs::runs(octets, first, n, s, n, samples, common, other) {
-                Outcome::Refused(why, bit) => Outcome::Refused(why, bit),
-                Outcome::Got(_, next) => Outcome::Got(n, next),
-            }
-        }
-    }
+    let (s, first) = code_of_s(octets, at, n)?;
+    let (_, next) = read_runs::runs(octets, first, n, s, n, samples, common, other)?;
+    Ok((n, next))
 }

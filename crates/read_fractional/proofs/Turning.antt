@@ -10,7 +10,7 @@ use lib.ListN.{length, get_or, set, length-map, length-append}
 use Rattle.rules.specs.declared.Refusal.{Refusal}
 use Rattle.rules.specs.declared.Refusal.TheVariants.{Place}
 use Rattle.rules.specs.Reading.{whole, refuse, number_from}
-use Rattle.read_bits.specs.declared.Outcome.TheVariants.{Got, Refused}
+use Rattle.read_bits.specs.Outcomes.{got, stop}
 use Rattle.read_runs.specs.Flagged.{Put}
 use Rattle.read_runs.proofs.Puts.{put-none, put_one, put_then, put-length}
 use Rattle.read_bodies.specs.Bodied.{FillsBody}
@@ -94,18 +94,18 @@ module _ {values bits : List ℕ} {at : ℕ} {c : Coding} {n : ℕ} {old new : L
   filling-turn t h e f o q room = turned t.more t.done t.says t.size t.left t.put t.near h e f o q room
 
   pub filling-refused : Filling values bits at c n old new filled place → filled < n → {why : Refusal} {b far : ℕ}
-      → number_from 0 c.bits bits place ≡ refuse why b → FillsBody (groups_as values c n bits at) far old new (Refused why b)
+      → number_from 0 c.bits bits place ≡ refuse why b → FillsBody (groups_as values c n bits at) far old new (stop why b)
   filling-refused t h e =
       fills-refused (refused-at values bits at c n filled place t.more t.done t.says t.left h e) t.room
 
   pub filling-place : Filling values bits at c n old new filled place → filled < n → {v next far : ℕ}
       → number_from 0 c.bits bits place ≡ whole v next → c.radix ^ c.group ≤ v
-      → FillsBody (groups_as values c n bits at) far old new (Refused Place place)
+      → FillsBody (groups_as values c n bits at) far old new (stop Place place)
   filling-place t h e f =
       fills-refused (placed_at values bits at c n filled place t.more t.done t.says t.left h e f) t.room
 
   pub filling-all : Filling values bits at c n old new filled place → n ≤ filled
-      → FillsBody (groups_as values c n bits at) (at + 4160) old new (Got n place)
+      → FillsBody (groups_as values c n bits at) (at + 4160) old new (got n place)
   filling-all t h =
       let s = t.size in
       let near = t.near in

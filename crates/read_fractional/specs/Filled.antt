@@ -2,7 +2,7 @@
 use Rattle.std.specs.Prelude.{ℕ, ◌+◌, ◌≡◌, List, map, length, get_or}
 use Rattle.rules.specs.Bits.{bits_of}
 use Rattle.rules.specs.Fractional.{Coding, groups_as, fractional}
-use Rattle.read_bits.specs.declared.Outcome.{Outcome}
+use Rattle.read_bits.specs.Outcomes.{Outcome}
 use Rattle.read_runs.specs.Flagged.{Put}
 use Rattle.read_bodies.specs.Bodied.{FillsBody}
 

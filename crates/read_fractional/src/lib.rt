@@ -6,7 +6,7 @@ ghost use Rattle.rules.specs.Fractional.{coding, coding_of, Packs, digits_of};
 ghost use Rattle.read_fractional.specs.Rows.{six};
 ghost use Rattle.read_fractional.specs.Filled.{Lays, Body, RowBody};
 
-use read_bits::Outcome;
+use read_bits::{Outcome, Stop};
 use rules::Refusal;
 use value_rows::{row_at, sample_at};
 
@@ -24,7 +24,8 @@ fn quotient(v: usize, r: usize) -> usize
     }
 }
 
-// The g digits of V as samples, from a place on: by repeated division, the lowest first.
+// The g digits of V as samples, from a place on: by repeated division, the lowest first. By an index: g is 5 where it is called, and the
+// loop is laid out.
 fn lay(samples: &mut [u8; 320], from: usize, v: usize, r: usize, g: usize, values: &[u8; 6])
     requires { (from + g ≤ 320) × (v < 8192) × (2 ≤ r) × (r ≤ 6) × (length samples.old ≡ 320) × (length values.now ≡ 6) }
     ensures { Lays samples.old from values.now (digits_of r g v) samples.new }
@@ -52,6 +53,8 @@ fn fifth(r: usize) -> usize
 }
 
 // n samples in groups of five digits and w bits. "V not below R'^5 is PLACE, judged when V is whole, at V's first bit."
+// A step is five samples, and ends the body where V is refused.
+// The place is counted by hand: a `step_by` leaves its end open.
 fn groups(
     octets: &[u8],
     at: usize,
@@ -69,21 +72,18 @@ fn groups(
     let mut filled = 0;
     let mut place = at;
     while filled < n {
-        match read_bits::number(octets, place, w) {
-            Outcome::Refused(why, bit) => {
-                return Outcome::Refused(why, bit);
-            }
-            Outcome::Got(v, next) => {
-                if most <= v {
-                    return Outcome::Refused(Refusal::Place, place);
-                }
-                lay(samples, filled, v, r, 5, values);
-                filled += 5;
-                place = next;
-            }
+        let (v, next) = read_bits::number(octets, place, w)?;
+        if most <= v {
+            return Err(Stop {
+                why: Refusal::Place,
+                bit: place,
+            });
         }
+        lay(samples, filled, v, r, 5, values);
+        filled += 5;
+        place = next;
     }
-    Outcome::Got(n, place)
+    Ok((n, place))
 }
 
 // "R' = 2": N bits, read by windows; each one picks one of the two values (8-23).
@@ -97,13 +97,11 @@ fn two_values(
     requires { (at ≤ 2 ^ 37) × (n ≤ 320) × (length samples.old ≡ 320) × (length values.now ≡ 6) }
     ensures { Body (coding 2 1 1) values.now n octets.now at samples.old samples.new result }
 {
-    match read_runs::straight(octets, at, n, samples, values[0], values[1]) {
-        Outcome::Refused(why, bit) => Outcome::Refused(why, bit),
-        Outcome::Got(_, next) => Outcome::Got(n, next),
-    }
+    let (_, next) = read_runs::straight(octets, at, n, samples, values[0], values[1])?;
+    Ok((n, next))
 }
 
-// "R' = 4": N numbers of two bits; each one picks one of the four values (8-24), (8-25).
+// "R' = 4": N numbers of two bits; each one picks one of the four values (8-24), (8-25), and none can be refused but at the octets' end.
 fn four_values(
     octets: &[u8],
     at: usize,
@@ -114,21 +112,13 @@ fn four_values(
     requires { (at ≤ 2 ^ 37) × (n ≤ 320) × (length samples.old ≡ 320) × (length values.now ≡ 6) }
     ensures { Body (coding 4 1 2) values.now n octets.now at samples.old samples.new result }
 {
-    let mut filled = 0;
     let mut place = at;
-    while filled < n {
-        match read_bits::number(octets, place, 2) {
-            Outcome::Refused(why, bit) => {
-                return Outcome::Refused(why, bit);
-            }
-            Outcome::Got(v, next) => {
-                samples[filled] = values[v];
-                filled += 1;
-                place = next;
-            }
-        }
+    for filled in 0..n {
+        let (v, next) = read_bits::number(octets, place, 2)?;
+        samples[filled] = values[v];
+        place = next;
     }
-    Outcome::Got(n, place)
+    Ok((n, place))
 }
 
 // The samples of a row's digits. Those past its last one are never looked at.

@@ -3,8 +3,8 @@
 -- where 28, 2A, 38 or 3A, or another first octet that a second one must decide, stands alone; TOOL as g7110_read gives it. A pad needs no
 -- tool. A cut body is no refusal."
 use Rattle.std.specs.Prelude.{ℕ, ◌+◌, ◌≡◌, List, [], ◌∷◌, cond, not}
-use Rattle.rules.specs.declared.Ending.{Ending}
-use Rattle.rules.specs.declared.Ending.TheVariants.{Done, Refused}
+use Rattle.rules.specs.Refusals.{Ending}
+use Rattle.std.specs.Prelude.{Ok, Err}
 use Rattle.rules.specs.declared.Refusal.TheVariants.{Prefix, Tool, Set}
 use Rattle.rules.specs.Refusals.{ask, judged, refusal_tool}
 use Rattle.rules.specs.Tools.{holds, is_set}
@@ -41,8 +41,8 @@ head_of octets set =
 
 -- what is reported of it: "TOOL (the report is the tool, 0)"
 abbrev pub head_end : Read FrameHead → Ending
-head_end (whole h i) = Done
-head_end (refuse w at) = Refused w
+head_end (whole h i) = Ok tt
+head_end (refuse w at) = Err w
 
 abbrev pub head_tool : Read FrameHead → ℕ
 head_tool (whole h i) = h.tool

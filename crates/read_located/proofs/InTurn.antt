@@ -13,8 +13,7 @@ use Rattle.rules.specs.Bits.{bits_of}
 use Rattle.rules.specs.Reading.{Read, whole, refuse, and_then}
 use Rattle.rules.specs.Located.{empty_in, lay, values_into}
 use Rattle.rules.proofs.Laid.{empty-all, length-lay, lay-count}
-use Rattle.read_bits.specs.declared.Outcome.{Outcome}
-use Rattle.read_bits.specs.declared.Outcome.TheVariants.{Got, Refused}
+use Rattle.read_bits.specs.Outcomes.{Outcome, got, stop}
 use Rattle.read_runs.specs.Flagged.{kinds}
 use Rattle.read_runs.proofs.Answer.{MarksAs}
 use Rattle.read_runs.proofs.Puts.{length-kinds}
@@ -42,11 +41,11 @@ next-value xs count done h k =
     drop-cons (take count xs) done 0 (omega arith) ∙ rw (get_or-take count xs done 0 h, add-one done)
 
 module _ {found : Read (List ℕ)} {n far : ℕ} {old new : List ℕ} where
-  pub lays-refused : {w : Refusal} {b : ℕ} → found ≡ refuse w b → length new ≡ 320 → LaysCells found n far old new (Refused w b)
+  pub lays-refused : {w : Refusal} {b : ℕ} → found ≡ refuse w b → length new ≡ 320 → LaysCells found n far old new (stop w b)
   lays-refused e room = rw e (record { end = refl; next = zero-le; cells = tt; room = room })
 
   lays-got : {cells : List ℕ} {next : ℕ} → found ≡ whole cells next → length cells ≡ n → new ≡ cells ++ drop n old
-      → length new ≡ 320 → next ≤ far → LaysCells found n far old new (Got n next)
+      → length new ≡ 320 → next ≤ far → LaysCells found n far old new (got n next)
   lays-got e l m room k = rw e (record { end = refl; next = k; cells = (l, m); room = room })
 
 -- the same answer, told of an equal definition and of other cells past the n, with more room
@@ -68,7 +67,7 @@ lays-body {equal = equal} {n = n} {near = near} {far = far} {old = old} {new = n
     go (whole cells next) s =
         let l = s.cells.0 in
         record {
-          end = s.end ∙ ap (λ (i : ℕ). Got i next) (sym l);
+          end = s.end ∙ ap (λ (i : ℕ). got i next) (sym l);
           next = let x = s.next in omega arith;
           samples = (s.cells.1 ∙ ap (λ (i : ℕ). cells ++ drop i old) (sym l), omega arith);
         }
@@ -155,7 +154,7 @@ module _ {s : List ℕ} {at n z : ℕ} {xs : List ℕ} {count : ℕ} {old cells 
   cells-length = let r = g.room in length-take-le n cells (omega arith)
 
   pub in-turn-all : count ≤ done → count ≤ 3 → count ≤ length xs
-      → LaysCells (values_into n z (drop 1 (take count xs)) (take n old) (bits_of s) at) n (at + 211206) old cells (Got n place)
+      → LaysCells (values_into n z (drop 1 (take count xs)) (take n old) (bits_of s) at) n (at + 211206) old cells (got n place)
   unfolding values_into
   in-turn-all h m k =
       let t = length-take-le count xs k in
@@ -174,7 +173,7 @@ module _ {s : List ℕ} {at n z : ℕ} {xs : List ℕ} {count : ℕ} {old cells 
         ∙ values-step s n z (get_or xs done 0) (drop (done + 1) (take count xs)) (take n cells) place ∙ rw (← g.empty, e)
 
     pub in-turn-refused : {far : ℕ} {w : Refusal} {b : ℕ} → flags_of n left (bits_of s) place ≡ refuse w b
-        → LaysCells (values_into n z (drop 1 (take count xs)) (take n old) (bits_of s) at) n far old cells (Refused w b)
+        → LaysCells (values_into n z (drop 1 (take count xs)) (take n old) (bits_of s) at) n far old cells (stop w b)
     in-turn-refused e = lays-refused (turn_step e) g.room
 
     module _ {after : List ℕ} {far ones next : ℕ}

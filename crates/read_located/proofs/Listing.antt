@@ -14,7 +14,7 @@ use Rattle.rules.specs.Reading.{whole, refuse, number_from}
 use Rattle.rules.specs.Located.{listed_from}
 use Rattle.rules.specs.Chooses.{count_of}
 use Rattle.rules.proofs.Tests.{and_left, and_right}
-use Rattle.read_bits.specs.declared.Outcome.TheVariants.{Got, Refused}
+use Rattle.read_bits.specs.Outcomes.{got, stop}
 use Rattle.read_runs.specs.Flagged.{marked, Put, MarksCells}
 use Rattle.read_runs.proofs.Answer.{marks-refused}
 use Rattle.read_runs.proofs.Ones.{marked-run}
@@ -54,11 +54,11 @@ module _ {bits : List ℕ} {at d w count common other : ℕ} {old cells : List �
       (omega arith, omega arith)
 
   refusal : {r : Refusal} {b : ℕ} → listed_from w d f.done (count - read) bits place ≡ refuse r b
-      → MarksCells (listed_from w d [] count bits at) d (at + 36) common other old cells (Refused r b)
+      → MarksCells (listed_from w d [] count bits at) d (at + 36) common other old cells (stop r b)
   refusal e = marks-refused (marking-room f.marking) (f.so_far ∙ e)
 
   pub listing-all : count ≤ read → count ≤ 4 → MarksCells (listed_from w d [] count bits at) d (at + 36) common other old
-      cells (Got count place)
+      cells (got count place)
   unfolding listed_from
   listing-all h m =
       let t = f.turns in
@@ -73,14 +73,14 @@ module _ {bits : List ℕ} {at d w count common other : ℕ} {old cells : List �
     left = omega arith
 
     pub listing-refused : {r : Refusal} {b : ℕ} → number_from 0 w bits place ≡ refuse r b
-        → MarksCells (listed_from w d [] count bits at) d (at + 36) common other old cells (Refused r b)
+        → MarksCells (listed_from w d [] count bits at) d (at + 36) common other old cells (stop r b)
     unfolding listed_from
     listing-refused e = refusal (rw (left, e))
 
     module _ {p next : ℕ} (e : number_from 0 w bits place ≡ whole p next) where
       -- "rising, each below D"
       pub listing-falls : (leb least p && ltb p d) ≡ false → MarksCells (listed_from w d [] count bits at) d (at + 36)
-          common other old cells (Refused Place place)
+          common other old cells (stop Place place)
       unfolding listed_from
       listing-falls l = refusal (rw (left, e, ap (λ (i : ℕ). leb i p && ltb p d) f.size ∙ l))
 

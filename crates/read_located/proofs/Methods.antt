@@ -10,8 +10,7 @@ use Rattle.rules.specs.Reading.{Read, whole, refuse, number_from, bits_from}
 use Rattle.rules.specs.Runs.{runs_from}
 use Rattle.rules.specs.Located.{width_of, listed_from, listed, by_method}
 use Rattle.rules.specs.Chooses.{count_of}
-use Rattle.read_bits.specs.declared.Outcome.{Outcome}
-use Rattle.read_bits.specs.declared.Outcome.TheVariants.{Got}
+use Rattle.read_bits.specs.Outcomes.{Outcome, got}
 use Rattle.read_runs.specs.Flagged.{Put, MarksCells}
 use Rattle.read_runs.proofs.Marking.{marking-none, marking-all, marks-filled}
 use Rattle.read_located.specs.Valued.{flags_of}
@@ -31,7 +30,7 @@ module _ (n d start m : ℕ) (bits : List ℕ) (at : ℕ) where
   method_runs h l = rw (ne_eqb m 0 (λ e. omega arith), le-leb m 4 l)
 
   pub method-none : m ≡ 5 → d ≤ 320 → {common : ℕ} (other : ℕ) {old new : List ℕ} → length old ≡ 320 → Put old 0 (replicate d common) new
-      → MarksCells (by_method n d start m bits at) d (at + 105600) common other old new (Got 0 at)
+      → MarksCells (by_method n d start m bits at) d (at + 105600) common other old new (got 0 at)
   unfolding by_method count_of
   method-none h k other b p =
       marks-filled (marking-all (marking-none other p k b) d (omega arith)

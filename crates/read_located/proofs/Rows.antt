@@ -1,6 +1,6 @@
 -- The rows of the table of range cases, as octets.
 use Prim.Native.Nat.{ℕ, ◌+◌, ◌-◌, ◌/◌, ◌%◌, ◌≤◌, ◌<◌}
-use mathlib.Core.Path.{◌≡◌, refl, sym, subst, ◌∙◌}
+use mathlib.Core.Path.{◌≡◌, refl, sym, ap, subst, ◌∙◌}
 use mathlib.Core.List.{List, [], map}
 use mathlib.Core.Bool.{Bool, true, false, cond}
 use native.Mathlib.Omega.{arith}
@@ -8,6 +8,7 @@ use lib.Dec.{eqb, leb}
 use lib.Bits.{bit_xor, xor_step, xor_zero_l}
 use lib.IntN.{ℤ, pos, negsuc}
 use lib.ListN.{length, take, replicate, length-map}
+use lib.Seq.{length-take-le}
 use borrow.Author.Tests.{eq-eqb, ne_eqb, le-leb, lt-leb}
 use Rattle.rules.specs.declared.Refusal.TheVariants.{Case}
 use Rattle.rules.specs.Reading.{whole, refuse, number_from}
@@ -15,7 +16,7 @@ use Rattle.rules.specs.Samples.{sample_of}
 use Rattle.rules.specs.Located.{RangeCase, case0, case1, case2, case3, case_of, row_values, values_of, values_into, located}
 use Rattle.rules.proofs.Signed.{plus-zero}
 use Rattle.rules.proofs.Accepted.{by-case}
-use Rattle.read_bits.specs.declared.Outcome.{Outcome}
+use Rattle.read_bits.specs.Outcomes.{Outcome}
 use Rattle.read_bodies.specs.Bodied.{FillsBody}
 use Rattle.read_located.specs.declared.Row.{Row}
 use Rattle.read_located.specs.Valued.{Apart, RowOf, LaysCells}
@@ -99,27 +100,36 @@ module _ (n c flag : ℕ) where
       (λ e. too_short case0 e (omega arith)) (λ e. too_short case1 e (omega arith)) (λ e. too_short case2 e (omega arith))
       (λ e. too_short case3 e (omega arith)) c refl
 
-pub row_as : (mask : ℕ) {values vs : List ℤ} {xs : List ℕ} {r : Row} → values ≡ vs → map (sample_of mask) vs ≡ xs → RowOf xs r
-    → RowOf (map (sample_of mask) values) r
-row_as mask e f t = rw (e, f) t
+module _ (mask : ℕ) {values vs : List ℤ} (e : values ≡ vs) where
+  pub row_as : {xs : List ℕ} {r : Row} → map (sample_of mask) vs ≡ xs → RowOf xs r → RowOf (map (sample_of mask) values) r
+  row_as f t = rw (e, f) t
 
-pub apart-as : (z : ℕ) {xs : List ℕ} {r : Row} → RowOf xs r → Apart z xs → Apart z (take r.count r.octets)
-apart-as z t a = subst (λ (l : List ℕ). Apart z l) (sym t.values) a
+  pub none-as : vs ≡ [] → map (sample_of mask) values ≡ []
+  none-as f = rw (e, f)
 
 -- "range case (2 bits), flag (1 bit), then the values": CASE where there are none
 module _ (mask n : ℕ) (bits : List ℕ) (at : ℕ) {c second flag first : ℕ} (e : number_from 0 2 bits at ≡ whole c second)
-    (f : number_from 0 1 bits second ≡ whole flag first)
-    {r : Row} (t : RowOf (map (sample_of mask) (values_of n c flag)) r) where
-  size : r.count ≡ length (values_of n c flag)
-  size = t.size ∙ length-map (values_of n c flag) (sample_of mask)
-
-  pub no-values : r.count ≡ 0 → located mask n bits at ≡ refuse Case at
+    (f : number_from 0 1 bits second ≡ whole flag first) where
+  pub no-values : map (sample_of mask) (values_of n c flag) ≡ [] → located mask n bits at ≡ refuse Case at
   unfolding located
-  no-values h = let s = size in rw (e, f, eq-eqb (length (values_of n c flag)) 0 (omega arith))
+  no-values h =
+      let s = length-map (values_of n c flag) (sample_of mask) in
+      let z : length (map (sample_of mask) (values_of n c flag)) ≡ 0 = ap length h in
+      rw (e, f, eq-eqb (length (values_of n c flag)) 0 (omega arith))
 
-  pub some-filled : (r.count ≡ 0 → ⊥) → {near far : ℕ} {old new : List ℕ} {o : Outcome}
-      → LaysCells (values_into n (128 + mask) (take r.count r.octets) (replicate n (128 + mask)) bits first) n near old new o
-      → n ≤ 320 → near ≤ far → FillsBody (located mask n bits at) far old new o
-  unfolding located
-  some-filled h l k m =
-      lays-body l (rw (e, f, ne_eqb (length (values_of n c flag)) 0 (λ z. h (size ∙ z)), plus-zero mask, t.values)) k m
+  module _ {r : Row} (t : RowOf (map (sample_of mask) (values_of n c flag)) r) where
+    pub row-length : length (take r.count r.octets) ≡ r.count
+    row-length = length-take-le r.count r.octets (omega (arith, t.few, t.room))
+
+    pub some-filled : {near far : ℕ} {old new : List ℕ} {o : Outcome}
+        → LaysCells (values_into n (128 + mask) (take r.count r.octets) (replicate n (128 + mask)) bits first) n near old new o
+        → n ≤ 320 → near ≤ far → FillsBody (located mask n bits at) far old new o
+    unfolding located
+    some-filled l k m =
+        let s : length (values_of n c flag) ≡ r.count =
+        sym (length-map (values_of n c flag) (sample_of mask)) ∙ ap length (sym t.values) ∙ row-length
+        in
+        lays-body l (rw (e, f, ne_eqb (length (values_of n c flag)) 0 (λ z. omega (arith, t.some)), plus-zero mask, t.values)) k m
+
+pub apart-as : (z : ℕ) {xs : List ℕ} {r : Row} → RowOf xs r → Apart z xs → Apart z (take r.count r.octets)
+apart-as z t a = subst (λ (l : List ℕ). Apart z l) (sym t.values) a

@@ -1,10 +1,10 @@
 -- What is answered on the way: the flags of one value, values laid over one another, and a row of values as octets.
-use Rattle.std.specs.Prelude.{ℕ, ◌+◌, ◌≤◌, ◌≡◌, List, [], ◌∷◌, ◌++◌, cond, false, length, get_or, take, drop, eqb}
+use Rattle.std.specs.Prelude.{ℕ, ◌+◌, ◌≤◌, ◌<◌, ◌≡◌, List, [], ◌∷◌, ◌++◌, cond, false, length, get_or, take, drop, eqb}
+use Rattle.std.specs.declared.option.Option.{Option}
+use Rattle.std.specs.declared.option.Option.TheVariants.{Some, None}
 use Rattle.rules.specs.Reading.{Read, whole, refuse, Reader, ◌>>=◌, here, number}
 use Rattle.rules.specs.Located.{by_method}
-use Rattle.read_bits.specs.declared.Outcome.{Outcome}
-use Rattle.read_bits.specs.declared.Outcome.TheVariants.{Got, Refused}
-use Rattle.read_bits.specs.Outcomes.{next_of}
+use Rattle.read_bits.specs.Outcomes.{Outcome, got, stop, next_of}
 use Rattle.read_located.specs.declared.Row.{Row}
 
 -- the D flags of a value
@@ -21,8 +21,8 @@ fill_in z marks p (y ∷ cells) = cond (eqb y z) (get_or marks p 0) y ∷ fill_i
 
 -- the answer is the n cells and the next place, or the refusal and its bit
 abbrev pub cells_end : ℕ → Read (List ℕ) → Outcome
-cells_end n (whole cells next) = Got n next
-cells_end n (refuse w at) = Refused w at
+cells_end n (whole cells next) = got n next
+cells_end n (refuse w at) = stop w at
 
 -- the first n cells are the definition's, the others as lent; a refusal may leave any cells
 abbrev pub Lays : ℕ → Read (List ℕ) → List ℕ → List ℕ → Type 0
@@ -43,6 +43,11 @@ Apart z (x ∷ xs) = (eqb x z ≡ false) × Apart z xs
 -- the first of the octets are the values
 pub record RowOf (xs : List ℕ) (r : Row) : Type 0 where
   pub values : take r.count r.octets ≡ xs
-  pub size : r.count ≡ length xs
+  pub some : 0 < r.count
   pub few : r.count ≤ 3
   pub room : length r.octets ≡ 3
+
+-- no values, or their row
+abbrev pub RowFor : List ℕ → Option Row → Type 0
+RowFor xs None = xs ≡ []
+RowFor xs (Some r) = RowOf xs r

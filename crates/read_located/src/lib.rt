@@ -9,9 +9,9 @@ ghost use Rattle.rules.specs.Located.{width_of, listed_from, listed as listing, 
 ghost use Rattle.rules.specs.Located.{empty_in, values_of, values_into, located as locates};
 ghost use Rattle.read_runs.specs.Flagged.{MarksCells};
 ghost use Rattle.read_bodies.specs.Bodied.{FillsBody};
-ghost use Rattle.read_located.specs.Valued.{flags_of, fill_in, LaysCells, Apart, RowOf};
+ghost use Rattle.read_located.specs.Valued.{flags_of, fill_in, LaysCells, Apart, RowFor};
 
-use read_bits::Outcome;
+use read_bits::{Outcome, Stop};
 use rules::Refusal;
 
 // "ceil(log2 D)"
@@ -32,10 +32,7 @@ fn width_of(d: usize) -> usize
 fn rises(p: usize, least: usize, d: usize) -> bool
     ensures { result ≡ leb least p && ltb p d }
 {
-    if p < least {
-        return false;
-    }
-    p < d
+    least <= p && p < d
 }
 
 // "That many places of ceil(log2 D) bits", judged one by one.
@@ -56,24 +53,19 @@ fn places(
     let width = width_of(d);
     let mut least = 0;
     let mut place = at;
-    let mut read = 0;
-    while read < count {
-        match read_bits::number(octets, place, width) {
-            Outcome::Refused(why, bit) => {
-                return Outcome::Refused(why, bit);
-            }
-            Outcome::Got(p, next) => {
-                if !rises(p, least, d) {
-                    return Outcome::Refused(Refusal::Place, place);
-                }
-                cells[p] = other;
-                least = p + 1;
-                read += 1;
-                place = next;
-            }
+    for _read in 0..count {
+        let (p, next) = read_bits::number(octets, place, width)?;
+        if !rises(p, least, d) {
+            return Err(Stop {
+                why: Refusal::Place,
+                bit: place,
+            });
         }
+        cells[p] = other;
+        least = p + 1;
+        place = next;
     }
-    Outcome::Got(count, place)
+    Ok((count, place))
 }
 
 // "111, two bits for count less one", then the places.
@@ -89,10 +81,8 @@ fn listed(
     ensures { MarksCells (listing d (bits_of octets.now) at) d (at + 38) common other
         cells.old cells.new result }
 {
-    match read_bits::number(octets, at, 2) {
-        Outcome::Refused(why, bit) => Outcome::Refused(why, bit),
-        Outcome::Got(less, next) => { places(octets, next, d, less + 1, cells, common, other) }
-    }
+    let (less, next) = read_bits::number(octets, at, 2)?;
+    places(octets, next, d, less + 1, cells, common, other)
 }
 
 // The D flags of a value by its method, whose first bit is `start`, as cells.
@@ -111,20 +101,19 @@ fn by_method(
     ensures { MarksCells (by_method n d start m (bits_of octets.now) at) d (at + 105600) common other
         cells.old cells.new result }
 {
-    if m == 0 {
-        return read_runs::straight(octets, at, d, cells, common, other);
+    match m {
+        0 => read_runs::straight(octets, at, d, cells, common, other),
+        1..=4 => read_runs::runs(octets, at, n, m, d, cells, common, other),
+        5 => {
+            read_runs::fill(cells, d, common);
+            Ok((0, at))
+        }
+        6 => Err(Stop {
+            why: Refusal::Method,
+            bit: start,
+        }),
+        _ => listed(octets, at, d, cells, common, other),
     }
-    if m <= 4 {
-        return read_runs::runs(octets, at, n, m, d, cells, common, other);
-    }
-    if m == 5 {
-        read_runs::fill(cells, d, common);
-        return Outcome::Got(0, at);
-    }
-    if m == 6 {
-        return Outcome::Refused(Refusal::Method, start);
-    }
-    listed(octets, at, d, cells, common, other)
 }
 
 // One value: its method and its flags, which may fill every place that was left. The answer is the number of its places and the next place.
@@ -142,42 +131,22 @@ fn value(
     ensures { MarksCells (flags_of n d (bits_of octets.now) at) d (at + 105603) plus x
         cells.old cells.new result }
 {
-    match read_bits::number(octets, at, 3) {
-        Outcome::Refused(why, bit) => Outcome::Refused(why, bit),
-        Outcome::Got(m, first) => by_method(octets, first, n, d, m, at, cells, plus, x),
-    }
+    let (m, first) = read_bits::number(octets, at, 3)?;
+    by_method(octets, first, n, d, m, at, cells, plus, x)
 }
 
-// A cell after its turn: an empty one takes the next mark.
-fn cell(old: u8, mark: u8, plus: u8) -> u8
-    ensures { result ≡ cond (eqb old plus) mark old }
-{
-    if old == plus {
-        return mark;
-    }
-    old
-}
-
-// An empty cell uses a mark up.
-fn uses(old: u8, plus: u8) -> usize
-    ensures { (result ≡ cond (eqb old plus) 1 0) × (result ≤ 1) }
-{
-    if old == plus {
-        return 1;
-    }
-    0
-}
-
-// The marks laid into the empty cells: a place is counted among those still empty.
+// The marks laid into the empty cells: a place is counted among those still empty. Each cell is written, whichever it is: a choice
+// of values costs less than a branch.
+// By an index: the cells and the marks go on at different paces.
 fn lay(cells: &mut [u8; 320], n: usize, marks: &[u8; 320], plus: u8)
     requires { (n ≤ 320) × (length cells.old ≡ 320) × (length marks.now ≡ 320) }
     ensures { cells.new ≡ fill_in plus marks.now 0 (take n cells.old) ++ drop n cells.old }
 {
     let mut p = 0;
     for i in 0..n {
-        let old = cells[i];
-        cells[i] = cell(old, marks[p], plus);
-        p += uses(old, plus);
+        let empty = cells[i] == plus;
+        cells[i] = if empty { marks[p] } else { cells[i] };
+        p += usize::from(empty);
     }
 }
 
@@ -189,116 +158,108 @@ fn later(
     left: usize,
     cells: &mut [u8; 320],
     plus: u8,
-    xs: &[u8; 3],
-    count: usize,
+    xs: &[u8],
 ) -> Outcome
-    requires { (at ≤ 2 ^ 37 + 105606) × (n ≤ 320) × (0 < count) × (count ≤ 3) × Apart plus (take count xs.now)
-        × (length xs.now ≡ 3) × (length cells.old ≡ 320) × (left ≡ empty_in plus (take n cells.old)) × (left ≤ n) }
-    ensures { LaysCells (values_into n plus (drop 1 (take count xs.now)) (take n cells.old)
+    requires { (at ≤ 2 ^ 37 + 105606) × (n ≤ 320) × (0 < length xs.now) × (length xs.now ≤ 3) × Apart plus xs.now
+        × (length cells.old ≡ 320) × (left ≡ empty_in plus (take n cells.old)) × (left ≤ n) }
+    ensures { LaysCells (values_into n plus (drop 1 xs.now) (take n cells.old)
         (bits_of octets.now) at) n (at + 211206) cells.old cells.new result }
 {
     let mut marks = [0; 320];
     let mut empty = left;
     let mut place = at;
-    let mut done = 1;
-    while done < count {
-        match value(octets, place, n, empty, &mut marks, plus, xs[done]) {
-            Outcome::Refused(why, bit) => {
-                return Outcome::Refused(why, bit);
-            }
-            Outcome::Got(ones, next) => {
-                lay(cells, n, &marks, plus);
-                empty -= ones;
-                place = next;
-                done += 1;
-            }
-        }
+    for x in &xs[1..] {
+        let (ones, next) = value(octets, place, n, empty, &mut marks, plus, *x)?;
+        lay(cells, n, &marks, plus);
+        empty -= ones;
+        place = next;
     }
-    Outcome::Got(n, place)
+    Ok((n, place))
 }
 
 // The values in turn. "D is N for the first value", and all its cells are empty, so its flags are the cells.
-fn values(
-    octets: &[u8],
-    at: usize,
-    n: usize,
-    cells: &mut [u8; 320],
-    plus: u8,
-    xs: &[u8; 3],
-    count: usize,
-) -> Outcome
-    requires { (at ≤ 2 ^ 37 + 3) × (n ≤ 320) × (0 < count) × (count ≤ 3) × Apart plus (take count xs.now)
-        × (length xs.now ≡ 3) × (length cells.old ≡ 320) }
-    ensures { LaysCells (values_into n plus (take count xs.now) (replicate n plus)
+fn values(octets: &[u8], at: usize, n: usize, cells: &mut [u8; 320], plus: u8, xs: &[u8]) -> Outcome
+    requires { (at ≤ 2 ^ 37 + 3) × (n ≤ 320) × (0 < length xs.now) × (length xs.now ≤ 3) × Apart plus xs.now
+        × (length cells.old ≡ 320) }
+    ensures { LaysCells (values_into n plus xs.now (replicate n plus)
         (bits_of octets.now) at) n (at + 316809) cells.old cells.new result }
 {
-    match value(octets, at, n, n, cells, plus, xs[0]) {
-        Outcome::Refused(why, bit) => Outcome::Refused(why, bit),
-        Outcome::Got(ones, next) => { later(octets, next, n, n - ones, cells, plus, xs, count) }
-    }
+    let (ones, next) = value(octets, at, n, n, cells, plus, xs[0])?;
+    later(octets, next, n, n - ones, cells, plus, xs)
 }
 
-// The values of a row of the table of range cases, as octets; no values are CASE.
-#[derive(Drop)]
+// The values of a row of the table of range cases, as octets: the first `count`.
+// The three octets lie in it, since memory is fixed; a slice of them is made at once.
+#[derive(Clone, Copy)]
 struct Row {
     count: usize,
     octets: [u8; 3],
 }
 
-// The first `count` of three octets.
-fn some(count: usize, first: u8, second: u8, third: u8) -> Row
-    requires { count ≤ 3 }
-    ensures { RowOf (take count (first ∷ second ∷ third ∷ [])) result }
+// Case 0: the three values, for 240 samples and more.
+fn three_values(n: usize, flag: usize, mask: u8) -> Option<Row>
+    requires { (mask < 128) × (mask % 2 ≡ 1) }
+    ensures { RowFor (map (sample_of mask) (values_of n 0 flag)) result }
 {
-    Row {
-        count: count,
-        octets: [first, second, third],
+    let one = 127 + mask;
+    let less = mask - 1;
+    if n < 240 {
+        None
+    } else if flag == 1 {
+        Some(Row {
+            count: 3,
+            octets: [one, mask, less],
+        })
+    } else {
+        Some(Row {
+            count: 3,
+            octets: [mask, one, less],
+        })
     }
 }
 
-// No values.
-fn no_row() -> Row
-    ensures { RowOf [] result }
-{
-    some(0, 0, 0, 0)
-}
-
-// The table of range cases: flag 1 begins with 1, flag 0 with -1. A mask is odd, so the octets of 1, -1 and -2 are 127 + mask, the mask,
-// and the mask less 1.
-fn row_of(n: usize, case: usize, flag: usize, mask: u8) -> Row
+// The table of range cases, where no values are CASE: flag 1 begins with 1, flag 0 with -1. A mask is odd, so the octets of 1, -1 and -2
+// are 127 + mask, the mask, and the mask less 1.
+fn row_of(n: usize, case: usize, flag: usize, mask: u8) -> Option<Row>
     requires { (mask < 128) × (mask % 2 ≡ 1) }
-    ensures { RowOf (map (sample_of mask) (values_of n case flag)) result }
+    ensures { RowFor (map (sample_of mask) (values_of n case flag)) result }
 {
     let one = 127 + mask;
     let less = mask - 1;
     if n < 80 {
-        return no_row();
+        return None;
     }
     if case == 0 {
-        if n < 240 {
-            return no_row();
-        }
+        three_values(n, flag, mask)
+    } else if case == 1 {
         if flag == 1 {
-            return some(3, one, mask, less);
+            Some(Row {
+                count: 2,
+                octets: [one, mask, 0],
+            })
+        } else {
+            Some(Row {
+                count: 2,
+                octets: [mask, one, 0],
+            })
         }
-        return some(3, mask, one, less);
-    }
-    if case == 1 {
+    } else if case == 2 {
         if flag == 1 {
-            return some(2, one, mask, 0);
+            None
+        } else {
+            Some(Row {
+                count: 2,
+                octets: [mask, less, 0],
+            })
         }
-        return some(2, mask, one, 0);
+    } else if flag == 1 {
+        Some(Row {
+            count: 1,
+            octets: [one, 0, 0],
+        })
+    } else {
+        None
     }
-    if case == 2 {
-        if flag == 1 {
-            return no_row();
-        }
-        return some(2, mask, less, 0);
-    }
-    if flag == 1 {
-        return some(1, one, 0, 0);
-    }
-    no_row()
 }
 
 // "Range case (2 bits), flag (1 bit), then the values in turn"; CASE is judged of all three bits and N together.
@@ -307,18 +268,20 @@ pub fn located(octets: &[u8], at: usize, n: usize, mask: u8, samples: &mut [u8; 
     ensures { FillsBody (locates mask n (bits_of octets.now) at) (at + 400000)
         samples.old samples.new result }
 {
-    match read_bits::number(octets, at, 2) {
-        Outcome::Refused(why, bit) => Outcome::Refused(why, bit),
-        Outcome::Got(case, second) => match read_bits::number(octets, second, 1) {
-            Outcome::Refused(why, bit) => Outcome::Refused(why, bit),
-            Outcome::Got(flag, first) => {
-                let row = row_of(n, case, flag, mask);
-                let count = row.count;
-                if count == 0 {
-                    return Outcome::Refused(Refusal::Case, at);
-                }
-                values(octets, first, n, samples, 128 + mask, &row.octets, count)
-            }
-        },
+    let (case, second) = read_bits::number(octets, at, 2)?;
+    let (flag, first) = read_bits::number(octets, second, 1)?;
+    match row_of(n, case, flag, mask) {
+        None => Err(Stop {
+            why: Refusal::Case,
+            bit: at,
+        }),
+        Some(row) => values(
+            octets,
+            first,
+            n,
+            samples,
+            128 + mask,
+            &row.octets[..row.count],
+        ),
     }
 }

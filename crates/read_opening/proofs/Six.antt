@@ -8,16 +8,15 @@ use lib.Dec.{eqb}
 use native.Mathlib.Omega.{arith}
 use borrow.Author.Tests.{eq-eqb, ne_eqb}
 use Rattle.rules.specs.declared.Refusal.{Refusal}
-use Rattle.rules.specs.declared.Refusal.TheVariants.{Short}
 use Rattle.rules.specs.Bits.{bits_of}
-use Rattle.rules.specs.Reading.{whole, refuse}
+use Rattle.rules.specs.Reading.{whole, refuse, bit}
 use Rattle.rules.specs.First.{six_or_eight, mark_at, six_not_eight}
 use Rattle.rules.specs.Tools.{holds}
 use Rattle.rules.specs.Zeros.{plus_minus}
 use Rattle.rules.specs.Frame.{with_tool, after_first}
 use Rattle.rules.proofs.Octets.{length-bits_of, bits_of-below}
 use Rattle.rules.proofs.Gives.{Gives, gives-give, gives-bit, gives-bind, gives-cond}
-use Rattle.read_bits.proofs.OneBit.{bit-there, bit-missing}
+use Rattle.read_bits.proofs.OneBit.{bit-there}
 use Rattle.read_opening.specs.Opening.{body_by}
 
 module _ (s : List ℕ) (at : ℕ) (h : at / 8 < length s) where
@@ -25,19 +24,18 @@ module _ (s : List ℕ) (at : ℕ) (h : at / 8 < length s) where
   unfolding six_not_eight
   six-at-once e = rw (bit-there s at h, eq-eqb _ 1 e)
 
-  pub second-missing : (get_or (bits_of s) at 0 ≡ 1 → ⊥) → length s ≤ (at + 1) / 8 → six_not_eight (bits_of s) at ≡ refuse Short (at + 1)
-  unfolding six_not_eight
-  second-missing e g = rw (bit-there s at h, ne_eqb _ 1 e, bit-missing s (at + 1) g)
+  module _ (e : get_or (bits_of s) at 0 ≡ 1 → ⊥) where
+    pub second-missing : {w : Refusal} {k : ℕ} → bit (bits_of s) (at + 1) ≡ refuse w k → six_not_eight (bits_of s) at ≡ refuse w k
+    unfolding six_not_eight
+    second-missing q = rw (bit-there s at h, ne_eqb _ 1 e, q)
 
-  pub six-by-second : (get_or (bits_of s) at 0 ≡ 1 → ⊥) → (at + 1) / 8 < length s → get_or (bits_of s) (at + 1) 0 ≡ 1
-      → six_not_eight (bits_of s) at ≡ whole 6 (at + 1 + 1)
-  unfolding six_not_eight
-  six-by-second e g f = rw (bit-there s at h, ne_eqb _ 1 e, bit-there s (at + 1) g, eq-eqb _ 1 f)
+    pub six-by-second : {v j : ℕ} → bit (bits_of s) (at + 1) ≡ whole v j → v ≡ 1 → six_not_eight (bits_of s) at ≡ whole 6 j
+    unfolding six_not_eight
+    six-by-second {v} q f = rw (bit-there s at h, ne_eqb _ 1 e, q, eq-eqb v 1 f)
 
-  pub eight : (get_or (bits_of s) at 0 ≡ 1 → ⊥) → (at + 1) / 8 < length s → (get_or (bits_of s) (at + 1) 0 ≡ 1 → ⊥)
-      → six_not_eight (bits_of s) at ≡ whole 8 (at + 1 + 1)
-  unfolding six_not_eight
-  eight e g f = rw (bit-there s at h, ne_eqb _ 1 e, bit-there s (at + 1) g, ne_eqb _ 1 f)
+    pub eight : {v j : ℕ} → bit (bits_of s) (at + 1) ≡ whole v j → (v ≡ 1 → ⊥) → six_not_eight (bits_of s) at ≡ whole 8 j
+    unfolding six_not_eight
+    eight {v} q f = rw (bit-there s at h, ne_eqb _ 1 e, q, ne_eqb v 1 f)
 
 -- it is one of the two
 gives-six : Gives six_not_eight (λ t. (t ≡ 6) ⊎ (t ≡ 8))

@@ -1,5 +1,8 @@
 -- How a frame opens, and what is left to read after it.
-use Rattle.std.specs.Prelude.{ℕ, ◌-◌, ◌≤◌, ◌<◌, ◌≡◌, List, [], true, cond, eqb, length}
+use Rattle.std.specs.Prelude.{ℕ, ◌-◌, ◌≤◌, ◌<◌, ◌≡◌, List, [], true, cond, eqb, length, Ok, Err}
+use Rattle.std.specs.declared.result.Result.{Result}
+use Rattle.std.specs.declared.option.Option.{Option}
+use Rattle.std.specs.declared.option.Option.TheVariants.{Some, None}
 use Rattle.rules.specs.Tools.{is_length}
 use Rattle.rules.specs.Bits.{bits_of}
 use Rattle.rules.specs.Reading.{Read, whole, refuse, Reader}
@@ -8,9 +11,12 @@ use Rattle.rules.specs.Samples.{mask_of}
 use Rattle.rules.specs.Zeros.{plus_minus}
 use Rattle.rules.specs.Fractional.{first_code, fractional}
 use Rattle.rules.specs.Frame.{Found, body, with_tool, after_first, frame, read_one}
+use Rattle.read_bits.specs.declared.Stop.{Stop}
 use Rattle.read_opening.specs.declared.Head.{Head}
-use Rattle.read_opening.specs.declared.Opening.{Opening}
-use Rattle.read_opening.specs.declared.Opening.TheVariants.{Refused, Pad, Body}
+
+-- how a frame opens; a pad has no head
+abbrev pub Opening : Type 0
+Opening = Result (Option Head) Stop
 
 -- what a head has as its mark: tool 6's mark, tool 11's row, which first octet o tells, and else 0
 abbrev pub row_in : ℕ → ℕ → ℕ → ℕ
@@ -25,9 +31,9 @@ body_of mask h = body_by mask h.tool h.len h.mark
 
 -- the reading of the frame, given how it opens
 abbrev pub after_opening : ℕ → ℕ → ℕ → Opening → List ℕ → Read Found
-after_opening mask set room (Refused w at) bits = refuse w at
-after_opening mask set room Pad bits = whole (record { tool = 0; samples = []; bits = 8 }) 8
-after_opening mask set room (Body h) bits = with_tool set room h.tool h.len (body_of mask h) bits h.at
+after_opening mask set room (Err s) bits = refuse s.why s.bit
+after_opening mask set room (Ok None) bits = whole (record { tool = 0; samples = []; bits = 8 }) 8
+after_opening mask set room (Ok (Some h)) bits = with_tool set room h.tool h.len (body_of mask h) bits h.at
 
 -- the ranges of what was read
 pub record HeadFits (h : Head) : Type 0 where
@@ -37,9 +43,9 @@ pub record HeadFits (h : Head) : Type 0 where
   pub whole-octet : h.tool ≤ 5 → h.at ≡ 8
 
 abbrev pub Ranges : List ℕ → Opening → Type 0
-Ranges octets (Refused w at) = Unit {0}
-Ranges octets Pad = Unit {0}
-Ranges octets (Body h) = (HeadFits h) × (1 ≤ length octets)
+Ranges octets (Err s) = Unit {0}
+Ranges octets (Ok None) = Unit {0}
+Ranges octets (Ok (Some h)) = (HeadFits h) × (1 ≤ length octets)
 
 -- the opening of a frame of 6 or 8, its length known
 pub record SixOrEight (octets : List ℕ) (n : ℕ) (r : Opening) : Type 0 where

@@ -10,10 +10,11 @@ ghost use Rattle.read_bits.specs.Outcomes.{Reads};
 ghost use Rattle.read_opening.specs.Opening.{row_in, Opens, SixOrEight, Starts};
 
 use first_octet::Begins;
-use read_bits::Outcome;
-use rules::{Ending, Refusal};
+use read_bits::{Outcome, Stop};
+use rules::Refusal;
 
 // What a frame's first bits say: its tool and length, tool 6's mark or tool 11's row, and the place where its body begins.
+// The mark is a number, 0 for tools that have none: `body_by` takes it so, and an enum would put a match in each use.
 #[derive(Clone, Copy)]
 pub struct Head {
     pub tool: u32,
@@ -22,34 +23,27 @@ pub struct Head {
     pub at: usize,
 }
 
-// How a frame opens.
-#[derive(Drop)]
-pub enum Opening {
-    Refused(Refusal, usize),
-    Pad,
-    Body(Head),
-}
+// How a frame opens; a pad has no head.
+pub type Opening = Result<Option<Head>, Stop>;
 
 // "If the next two bits are 00 it is tool 8"; where the first of them is 1 the second is not asked for.
-fn six_not_eight(octets: &[u8], at: usize) -> Outcome
+pub fn six_not_eight(octets: &[u8], at: usize) -> Outcome
     requires { (at ≤ 7) × (1 ≤ length octets.now) }
     ensures { Reads (six_not_eight (bits_of octets.now) at) 8 9 result }
 {
     if read_bits::bit_at(octets, at) == 1 {
-        return Outcome::Got(6, at + 1);
+        return Ok((6, at + 1));
     }
-    let second = at + 1;
-    if octets.len() <= second / 8 {
-        return Outcome::Refused(Refusal::Short, second);
+    let (second, next) = read_bits::bit(octets, at + 1)?;
+    if second == 1 {
+        Ok((6, next))
+    } else {
+        Ok((8, next))
     }
-    if read_bits::bit_at(octets, second) == 1 {
-        return Outcome::Got(6, second + 1);
-    }
-    Outcome::Got(8, second + 1)
 }
 
 // The place of tool 6's mark: the length code is 2 bits, or 4 for 240 and 320, and the mark the third bit after it.
-fn mark_at(n: usize) -> usize
+pub fn mark_at(n: usize) -> usize
     ensures { (result ≡ mark_at n) × (result ≤ 6) }
 {
     if 240 <= n { 6 } else { 4 }
@@ -62,15 +56,13 @@ fn six_or_eight(octets: &[u8], n: usize) -> Opening
 {
     let m = mark_at(n);
     let mark = read_bits::bit_at(octets, m);
-    match six_not_eight(octets, m + 1) {
-        Outcome::Refused(why, bit) => Opening::Refused(why, bit),
-        Outcome::Got(t, _) => Opening::Body(Head {
-            tool: t as u32,
-            len: n,
-            mark,
-            at: m + 1,
-        }),
-    }
+    let (t, _) = six_not_eight(octets, m + 1)?;
+    Ok(Some(Head {
+        tool: t as u32,
+        len: n,
+        mark,
+        at: m + 1,
+    }))
 }
 
 // Tool 11's row is told by the first octet (document 02, R-14); the others have nothing there.
@@ -78,33 +70,40 @@ fn row_in(o: u8, t: u32, n: usize) -> usize
     requires { t ≡ 11 → first_code n ≤ o }
     ensures { result ≡ row_in o t n }
 {
-    if t != 11 {
-        return 0;
+    if t == 11 {
+        usize::from(o - value_rows::first_code(n))
+    } else {
+        0
     }
-    (o - value_rows::first_code(n)) as usize
 }
 
 // What the first octet begins, and where it is tool 6 or 8, which of them.
 fn opening_of(octets: &[u8]) -> Opening
     ensures { Opens octets.now result }
 {
-    if octets.len() == 0 {
-        return Opening::Refused(Refusal::Short, 0);
+    if octets.is_empty() {
+        return Err(Stop {
+            why: Refusal::Short,
+            bit: 0,
+        });
     }
     let first = octets[0];
     // A pad is told at once: a stream may be all pads.
     if first == 0 {
-        return Opening::Pad;
+        return Ok(None);
     }
     match first_octet::first_octet(first) {
-        Begins::Unassigned => Opening::Refused(Refusal::Prefix, 0),
-        Begins::Pad => Opening::Pad,
-        Begins::Tool(t, n) => Opening::Body(Head {
+        Begins::Unassigned => Err(Stop {
+            why: Refusal::Prefix,
+            bit: 0,
+        }),
+        Begins::Pad => Ok(None),
+        Begins::Tool(t, n) => Ok(Some(Head {
             tool: t,
             len: n,
             mark: row_in(first, t, n),
             at: 8,
-        }),
+        })),
         Begins::SixOrEight(n) => six_or_eight(octets, n),
     }
 }
@@ -114,7 +113,7 @@ pub fn opens(octets: &[u8], law: u32, set: u32) -> Opening
     ensures { Starts octets.now law set result }
 {
     match rules::guard(law, set) {
-        Ending::Refused(why) => Opening::Refused(why, 0),
-        Ending::Done => opening_of(octets),
+        Err(why) => Err(Stop { why, bit: 0 }),
+        Ok(()) => opening_of(octets),
     }
 }

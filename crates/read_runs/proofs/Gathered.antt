@@ -12,7 +12,7 @@ use Rattle.rules.specs.Bits.{low_bits}
 use Rattle.rules.specs.Reading.{whole, refuse, number_from, bits_from}
 use Rattle.rules.specs.Chooses.{count_of}
 use Rattle.rules.proofs.Octets.{Below, none, below-append, low_bits-below, length-low_bits}
-use Rattle.read_bits.specs.declared.Outcome.TheVariants.{Got, Refused}
+use Rattle.read_bits.specs.Outcomes.{got, stop}
 use Rattle.read_runs.specs.Flagged.{marked, kinds, Put, MarksCells}
 use Rattle.read_runs.proofs.Ones.{count-append}
 use Rattle.read_runs.proofs.Puts.{put-none, put_then, put-length, put_first, length-kinds, kinds-append}
@@ -65,7 +65,7 @@ window-small {v} {n} h k =
 
 module _ {bits : List ℕ} {at d common other : ℕ} {old cells : List ℕ} {filled count place : ℕ}
     (g : Gathered bits at d common other old cells filled count place) where
-  pub gathered-all : d ≤ filled → MarksCells (bits_from [] d bits at) d (at + d) common other old cells (Got count place)
+  pub gathered-all : d ≤ filled → MarksCells (bits_from [] d bits at) d (at + d) common other old cells (got count place)
   unfolding bits_from
   gathered-all h =
       let w = g.within in
@@ -80,7 +80,7 @@ module _ {bits : List ℕ} {at d common other : ℕ} {old cells : List ℕ} {fil
     split = omega arith
 
     pub gathered-refused : {r : Refusal} {b : ℕ} → number_from 0 n bits place ≡ refuse r b
-        → MarksCells (bits_from [] d bits at) d (at + d) common other old cells (Refused r b)
+        → MarksCells (bits_from [] d bits at) d (at + d) common other old cells (stop r b)
     gathered-refused e =
         marks-refused g.room (g.so_far ∙ rw split (window-refused bits n (d - (filled + n)) place 0 e g.done))
 

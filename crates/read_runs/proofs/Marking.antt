@@ -9,8 +9,7 @@ use lib.ListN.{length, drop, set, replicate, length-append, length-drop, length-
 use lib.Seq.{set_at, drop_at}
 use Rattle.rules.specs.Reading.{Read, whole, refuse}
 use Rattle.rules.proofs.Octets.{none, more, below_at, below_all, below-append, below-replicate}
-use Rattle.read_bits.specs.declared.Outcome.{Outcome}
-use Rattle.read_bits.specs.declared.Outcome.TheVariants.{Got}
+use Rattle.read_bits.specs.Outcomes.{Outcome, got}
 use Rattle.read_runs.specs.Flagged.{marked, kinds, Put, Marks, MarksCells}
 pub use Rattle.read_runs.specs.Reached.{Marking}
 use Rattle.read_runs.proofs.Ones.{marked-none, count-append}
@@ -96,7 +95,7 @@ module _ {d common other : ℕ} {old new done : List ℕ} (g : Marking d common 
   -- the others are v common places, and were read as such
   pub marking-all : {found : Read (List ℕ)} {far count next : ℕ} (v : ℕ) → length done + v ≡ d
       → found ≡ whole (done ++ replicate v 0) next → marked done ≡ count → next ≤ far
-      → MarksCells found d far common other old new (Got count next)
+      → MarksCells found d far common other old new (got count next)
   marking-all {count = count} v h e c n =
       let k : d - length done ≡ v = omega arith in
       let o : marked (done ++ replicate v 0) ≡ count = let z = marked-none v in simp count-append (omega arith) in

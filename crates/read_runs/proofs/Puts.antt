@@ -6,7 +6,7 @@ use native.Mathlib.Omega.{arith}
 use native.Mathlib.Nat.{add-zero, zero-add}
 use native.Mathlib.Numerals.{add-one}
 use lib.ListN.{length, take, drop, set, replicate}
-use lib.ListN.{length-append, length-drop, length-replicate, replicate-append-replicate, take-append-drop}
+use lib.ListN.{length-append, length-drop, take-append-drop}
 use lib.Seq.{length-take-le, take_at, drop_at, drop-drop, set_split}
 use Rattle.read_runs.specs.Flagged.{kind_of, kinds, Put}
 
@@ -60,27 +60,3 @@ kinds-append common other (f ∷ l) k = ap (λ (t : List ℕ). kind_of common ot
 pub kinds-common : (common other n : ℕ) → kinds common other (replicate n 0) ≡ replicate n common
 kinds-common common other zero = refl
 kinds-common common other (suc n) = ap (λ (t : List ℕ). common ∷ t) (kinds-common common other n)
-
--- the first i of n cells filled with x
-pub record Filling (old : List ℕ) (n x i : ℕ) (new : List ℕ) : Type 0 where
-  pub put : Put old 0 (replicate i x) new
-  pub within : i ≤ n
-  pub room : length new ≡ 320
-
-pub filling-none : (old : List ℕ) (n x : ℕ) → length old ≡ 320 → Filling old n x 0 old
-filling-none old n x h = record { put = put-none old 0; within = omega arith; room = h }
-
-pub filling-turn : {old new : List ℕ} {n x i : ℕ} → Filling old n x i new → length old ≡ 320 → n ≤ 320 → i < n
-    → Filling old n x (i + 1) (set new i x)
-filling-turn {old} {new} {n} {x} {i} g b f h =
-    let r = g.room in
-    let s = length-replicate i x in
-    let p = put_one new i x (omega arith) in
-    record {
-      put = put_then g.put (omega arith) (omega arith) p (replicate-append-replicate i 1 x);
-      within = omega arith;
-      room = put-length p (omega arith) ∙ r;
-    }
-
-pub filling-all : {old new : List ℕ} {n x i : ℕ} → Filling old n x i new → n ≤ i → Put old 0 (replicate n x) new
-filling-all {n = n} {i = i} g h = let w = g.within in let e : i ≡ n = omega arith in rw e at g.put

@@ -14,10 +14,10 @@ use Rattle.rules.specs.declared.Refusal.TheVariants.{Run}
 use Rattle.rules.specs.Reading.{Read, Reader, whole, refuse, and_then, give, fail}
 use Rattle.rules.specs.Runs.{rice, runs_from}
 use Rattle.rules.specs.Chooses.{count_of}
-use Rattle.read_bits.specs.declared.Outcome.TheVariants.{Got, Refused}
+use Rattle.read_bits.specs.Outcomes.{got, stop}
 use Rattle.read_runs.specs.Flagged.{one_run, Put, MarksCells}
-use Rattle.read_runs.specs.declared.Stretch.{Stretch}
-use Rattle.read_runs.specs.Reached.{Filled, end_of}
+use Rattle.read_runs.specs.declared.Reach.{Reach}
+use Rattle.read_runs.specs.Reached.{Filled, Reaches, end_of}
 use Rattle.read_runs.proofs.Answer.{marks-refused}
 use Rattle.read_runs.proofs.Ones.{marked-run}
 use Rattle.read_runs.proofs.Marking.{marking-none, marking-room, marking-mark, marking-all}
@@ -70,7 +70,7 @@ filled_none bits at n s other p f b =
 module _ {bits : List ℕ} {at n s d common other : ℕ} {old cells : List ℕ} {filled count place : ℕ}
     (f : Filled bits at n s d common other old cells filled count place) where
   -- all places are filled
-  pub runs-filled : d ≤ filled → MarksCells (runs_from n s d d [] bits at) d (at + 330 * d) common other old cells (Got count place)
+  pub runs-filled : d ≤ filled → MarksCells (runs_from n s d d [] bits at) d (at + 330 * d) common other old cells (got count place)
   unfolding runs_from
   runs-filled h =
       let w = f.within in
@@ -95,12 +95,12 @@ module _ {bits : List ℕ} {at n s d common other : ℕ} {old cells : List ℕ} 
     stepped e = f.so_far ∙ rw (fuel-left, ← e) (runs-step bits n s (d - (count + 1)) (d - filled) f.done place (omega arith))
 
     pub runs-refused : {w : Refusal} {b : ℕ} → one_run n s (d - filled) bits place ≡ refuse w b
-        → MarksCells (runs_from n s d d [] bits at) d (at + 330 * d) common other old cells (Refused w b)
+        → MarksCells (runs_from n s d d [] bits at) d (at + 330 * d) common other old cells (stop w b)
     runs-refused e = marks-refused (marking-room f.marking) (stepped e)
 
     module _ {v next : ℕ} (e : one_run n s (d - filled) bits place ≡ whole v next) where
       pub runs_closed : v ≡ d - filled → next ≤ place + 330 → MarksCells (runs_from n s d d [] bits at) d (at + 330 * d)
-          common other old cells (Got count next)
+          common other old cells (got count next)
       runs_closed l b =
           let w = f.within in
           let y = f.fuel in
@@ -126,18 +126,20 @@ module _ {bits : List ℕ} {at n s d common other : ℕ} {old cells : List ℕ} 
           }
 
 -- a run that reaches the end of the places, or the end itself
-pub runs-ended : {bits : List ℕ} {at n s d common other : ℕ} {old cells : List ℕ} (t : Stretch)
-    → Filled bits at n s d common other old cells t.filled t.count t.place
-    → (d ≤ t.past) × (t.filled ≤ t.past) × (rice n s bits t.place ≡ whole (t.past - t.filled) (t.place + t.size)) → t.size ≤ 41
-    → MarksCells (runs_from n s d d [] bits at) d (at + 330 * d) common other old cells (end_of d t)
-runs-ended {bits} {at} {n} {s} {d} {common} {other} {old} {cells} t f (p, q, e) z = go (dec_le d t.filled) (dec_le t.past d)
+pub runs-ended : {bits : List ℕ} {at n s d common other : ℕ} {old cells : List ℕ} {filled count place : ℕ} {run : Reach}
+    → Filled bits at n s d common other old cells filled count place → Reaches bits n s d filled place run
+    → MarksCells (runs_from n s d d [] bits at) d (at + 330 * d) common other old cells (end_of d filled count place run)
+runs-ended {bits} {at} {n} {s} {d} {common} {other} {old} {cells} {filled} {count} {place} {run} f r =
+    go (dec_le d filled) (dec_le run.past d)
   where
-    go : Dec (d ≤ t.filled) → Dec (t.past ≤ d) → MarksCells (runs_from n s d d [] bits at) d (at + 330 * d) common other
-        old cells (end_of d t)
-    go (yes h) k = rw (le-leb d t.filled h) (runs-filled f h)
+    go : Dec (d ≤ filled) → Dec (run.past ≤ d) → MarksCells (runs_from n s d d [] bits at) d (at + 330 * d) common other
+        old cells (end_of d filled count place run)
+    go (yes h) k = rw (le-leb d filled h) (runs-filled f h)
     go (no h) (no k) =
-        rw (lt-leb d t.filled (omega arith), lt-ltb d t.past (omega arith))
-        (runs-refused f (omega arith) (run_long bits n s (d - t.filled) t.place e (omega arith)))
+        rw (lt-leb d filled (omega arith), lt-ltb d run.past (omega arith))
+        (runs-refused f (omega arith) (run_long bits n s (d - filled) place r.code (omega (arith, r.from))))
     go (no h) (yes k) =
-        rw (lt-leb d t.filled (omega arith), le-ltb d t.past k)
-        (runs_closed f (omega arith) (run_fits bits n s (d - t.filled) t.place e (omega arith)) (omega arith) (omega arith))
+        let e = r.end in
+        let l = r.from in
+        rw (lt-leb d filled (omega arith), le-ltb d run.past k)
+        (runs_closed f (omega arith) (run_fits bits n s (d - filled) place r.code (omega arith)) (omega arith) (omega (arith, r.small)))

@@ -4,6 +4,7 @@
 use Prim.Native.Nat.{ℕ, ◌+◌, ◌*◌, ◌-◌, ◌^◌, ◌/◌, ◌%◌, ◌≤◌, ◌<◌}
 use mathlib.Core.Path.{◌≡◌, sym, ap, ◌∙◌}
 use mathlib.Core.List.{List}
+use Rattle.std.specs.declared.option.Option.TheVariants.{Some, None}
 use native.Mathlib.Omega.{arith}
 use lib.Count.{count_leading_zeros}
 use lib.ListN.{length, set, length-set}
@@ -12,7 +13,6 @@ use Rattle.rules.specs.Reading.{whole}
 use Rattle.rules.specs.Runs.{rice}
 use Rattle.read_bits.specs.Windows.{Holds, run_in}
 use Rattle.read_bits.proofs.InWord.{holds_on, rice-held}
-use Rattle.read_runs.specs.declared.Stretch.{Stretch}
 use Rattle.read_runs.specs.Reached.{Goes_on, ReadsSeveral}
 use Rattle.read_runs.proofs.Turn.{run_fits, runs-turn}
 
@@ -37,10 +37,9 @@ in-word-none octets at n s d other {good = good} h w f r =
 module _ {octets : List ℕ} {at n s d other : ℕ} {old : List ℕ} {before marks all : ℕ} {new : List ℕ} {word good filled count : ℕ}
     (i : InWord octets at n s d other old before marks all new word good filled count) where
   -- no code more stands whole in the word
-  pub in-word-ends : (r : Stretch) → r.filled ≡ filled → r.count ≡ count → r.place ≡ at + (all - good) → r.size ≡ 0
-      → ReadsSeveral octets n s d other old before marks at new r
-  in-word-ends r f c p z =
-      record { goes = rw (f, c, p) i.goes; last = λ h. absurd (omega arith); small = omega arith; from = rw f i.from; room = i.room }
+  pub in-word-ends : ReadsSeveral octets n s d other old before marks at new
+      (record { filled = filled; count = count; place = at + (all - good); reach = None })
+  in-word-ends = record { goes = i.goes; last = tt; from = i.from; room = i.room }
 
   module _ {zeros v : ℕ} (c : zeros ≡ count_leading_zeros 32 (word / 2 ^ 32)) (h : zeros < 32) (m : s ≤ 9)
       (g : zeros + (s + 1) ≤ good) (e : v ≡ run_in word zeros s) where
@@ -49,15 +48,18 @@ module _ {octets : List ℕ} {at n s d other : ℕ} {old : List ℕ} {before mar
         ∙ ap (λ (x : ℕ). whole x (at + (all - good) + (zeros + (s + 1)))) (sym e)
 
     -- a run that reaches the end
-    pub in-word-last : (r : Stretch) → r.filled ≡ filled → r.count ≡ count → r.place ≡ at + (all - good) → r.past ≡ filled + v
-        → r.size ≡ zeros + (s + 1) → d ≤ filled + v → ReadsSeveral octets n s d other old before marks at new r
-    in-word-last r f k p q z l =
+    pub in-word-last : d ≤ filled + v → ReadsSeveral octets n s d other old before marks at new (record {
+      filled = filled;
+      count = count;
+      place = at + (all - good);
+      reach = Some (record { past = filled + v; size = zeros + (s + 1) });
+    })
+    in-word-last l =
         let w : filled + v - filled ≡ v = omega arith in
         record {
-          goes = rw (f, k, p) i.goes;
-          last = λ t. (omega arith, omega arith, rw (p, q, f, z, w) code);
-          small = omega arith;
-          from = rw f i.from;
+          goes = i.goes;
+          last = record { end = l; from = omega arith; code = rw w code; small = omega arith };
+          from = i.from;
           room = i.room;
         }
 

@@ -4,9 +4,7 @@ use Rattle.rules.specs.declared.Refusal.TheVariants.{Run}
 use Rattle.rules.specs.Reading.{Read, whole, refuse, Reader, ◌>>=◌, give, fail, here}
 use Rattle.rules.specs.Runs.{rice}
 use Rattle.rules.specs.Chooses.{count_of}
-use Rattle.read_bits.specs.declared.Outcome.{Outcome}
-use Rattle.read_bits.specs.declared.Outcome.TheVariants.{Got, Refused}
-use Rattle.read_bits.specs.Outcomes.{next_of}
+use Rattle.read_bits.specs.Outcomes.{Outcome, got, stop, next_of}
 
 -- how many flags are 1
 abbrev pub marked : List ℕ → ℕ
@@ -32,8 +30,8 @@ pub record Put (old : List ℕ) (from : ℕ) (xs new : List ℕ) : Type 0 where
 
 -- the number of ones and the next place, or the refusal and its bit
 abbrev pub flags_end : Read (List ℕ) → Outcome
-flags_end (whole flags next) = Got (marked flags) next
-flags_end (refuse w at) = Refused w at
+flags_end (whole flags next) = got (marked flags) next
+flags_end (refuse w at) = stop w at
 
 -- the first d cells are those of d flags of 0 and 1, the others as lent; a refused reading may leave any cells
 abbrev pub Marks : ℕ → ℕ → ℕ → Read (List ℕ) → List ℕ → List ℕ → Type 0

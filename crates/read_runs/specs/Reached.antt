@@ -1,12 +1,14 @@
 -- How far a reading of runs has come, and what reading several of them from one word says.
 use Rattle.std.specs.Prelude.{ℕ, ◌+◌, ◌*◌, ◌-◌, ◌≤◌, ◌<◌, ◌≡◌, List, [], ◌++◌, cond, length, get_or, drop, replicate, leb, ltb}
+use Rattle.std.specs.declared.option.Option.{Option}
+use Rattle.std.specs.declared.option.Option.TheVariants.{Some, None}
 use Rattle.rules.specs.declared.Refusal.TheVariants.{Run}
 use Rattle.rules.specs.Bits.{bits_of}
 use Rattle.rules.specs.Reading.{whole}
 use Rattle.rules.specs.Runs.{rice, runs_from}
-use Rattle.read_bits.specs.declared.Outcome.{Outcome}
-use Rattle.read_bits.specs.declared.Outcome.TheVariants.{Got, Refused}
+use Rattle.read_bits.specs.Outcomes.{Outcome, got, stop}
 use Rattle.read_runs.specs.Flagged.{marked, kinds}
+use Rattle.read_runs.specs.declared.Reach.{Reach}
 use Rattle.read_runs.specs.declared.Stretch.{Stretch}
 
 -- cells whose first are those of the flags `done`, and whose others up to d are still common
@@ -34,17 +36,26 @@ pub record Goes_on (bits : List ℕ) (n s d other : ℕ) (old : List ℕ) (fille
   pub on : {at common : ℕ} {lent : List ℕ} → Filled bits at n s d common other lent old filled count place
       → Filled bits at n s d common other lent new filled' count' place'
 
--- some runs more, each but one short of the end; of one that reaches it, `past` is where, and `size` its bits
+-- the run at a place reaches the end of the places: `past` is where it comes to, and `size` its bits
+pub record Reaches (bits : List ℕ) (n s d filled place : ℕ) (run : Reach) : Type 0 where
+  pub end : d ≤ run.past
+  pub from : filled ≤ run.past
+  pub code : rice n s bits place ≡ whole (run.past - filled) (place + run.size)
+  pub small : run.size ≤ 41
+
+abbrev pub ReachesIf : List ℕ → ℕ → ℕ → ℕ → ℕ → ℕ → Option Reach → Type 0
+ReachesIf bits n s d filled place None = Unit {0}
+ReachesIf bits n s d filled place (Some run) = Reaches bits n s d filled place run
+
+-- some runs more, each but one short of the end; and one that reaches it, if it is known
 pub record ReadsSeveral (octets : List ℕ) (n s d other : ℕ) (old : List ℕ) (filled count place : ℕ) (new : List ℕ)
     (r : Stretch) : Type 0 where
   pub goes : Goes_on (bits_of octets) n s d other old filled count place new r.filled r.count r.place
-  pub last : 0 < r.size
-      → (d ≤ r.past) × (r.filled ≤ r.past) × (rice n s (bits_of octets) r.place ≡ whole (r.past - r.filled) (r.place + r.size))
-  pub small : r.size ≤ 41
+  pub last : ReachesIf (bits_of octets) n s d r.filled r.place r.reach
   pub from : filled ≤ r.filled
   pub room : length new ≡ 320
 
 -- the answer there: all places are filled, the run is too long, or "the closing sample is imagined"
-abbrev pub end_of : ℕ → Stretch → Outcome
-end_of d t = cond (leb d t.filled) (Got t.count t.place)
-    (cond (ltb d t.past) (Refused Run t.place) (Got t.count (t.place + t.size)))
+abbrev pub end_of : ℕ → ℕ → ℕ → ℕ → Reach → Outcome
+end_of d filled count place run = cond (leb d filled) (got count place)
+    (cond (ltb d run.past) (stop Run place) (got count (place + run.size)))

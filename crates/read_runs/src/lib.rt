@@ -1,7 +1,7 @@
 // D flags of a value or a frame, 0 the common kind and 1 the other, as runs or bit by bit: each marks a lent cell by its kind.
 #![tactic(auto)]
 
-ghost use Rattle.std.specs.Prelude.{◌≡◌, [], ◌+◌, ◌*◌, ◌-◌, ◌^◌, ◌≤◌, ◌<◌, min, length, replicate};
+ghost use Rattle.std.specs.Prelude.{◌≡◌, [], ◌+◌, ◌*◌, ◌-◌, ◌^◌, ◌≤◌, ◌<◌, length, replicate};
 ghost use Rattle.rules.specs.Bits.{low_bits, bits_of};
 ghost use Rattle.rules.specs.Reading.{bits_from};
 ghost use Rattle.rules.specs.Runs.{runs as runs_over};
@@ -9,17 +9,16 @@ ghost use Rattle.read_bits.specs.Outcomes.{Reads};
 ghost use Rattle.read_runs.specs.Flagged.{one_run, kind_of, kinds, Put, MarksCells};
 ghost use Rattle.read_runs.specs.Reached.{ReadsSeveral, end_of};
 
-use read_bits::Outcome;
+use read_bits::{Outcome, Stop};
 use rules::Refusal;
 
 // The first d cells are x.
+// The cells are a frame buffer with a number beside: memory is fixed, and contracts speak of the first d and of the rest as lent.
 pub fn fill(cells: &mut [u8; 320], d: usize, x: u8)
     requires { (d ≤ 320) × (length cells.old ≡ 320) }
     ensures { Put cells.old 0 (replicate d x) cells.new }
 {
-    for i in 0..d {
-        cells[i] = x;
-    }
+    cells[..d].fill(x);
 }
 
 // A run of v places, of those left.
@@ -27,42 +26,36 @@ fn run(octets: &[u8], at: usize, n: usize, s: usize, left: usize) -> Outcome
     requires { (at ≤ 2 ^ 39) × (n ≤ 320) × (s ≤ 9) × (left ≤ 320) }
     ensures { Reads (one_run n s left (bits_of octets.now) at) left (at + 330) result }
 {
-    let too_long = left + 1;
-    match read_bits::rice(octets, at, n, s) {
-        Outcome::Refused(why, bit) => Outcome::Refused(why, bit),
-        Outcome::Got(v, next) => {
-            if too_long <= v {
-                return Outcome::Refused(Refusal::Run, at);
-            }
-            Outcome::Got(v, next)
-        }
+    let (v, next) = read_bits::rice(octets, at, n, s)?;
+    if left < v {
+        Err(Stop {
+            why: Refusal::Run,
+            bit: at,
+        })
+    } else {
+        Ok((v, next))
     }
 }
 
-// What `several` has read: how far the places are filled, how many marks there are, and the next place.
-// Of a run that reaches the end of the places, `past` is the place it comes to and `size` its bits; else `size` is 0.
+// A run that reaches the end of the places: the place it comes to, and its bits.
+#[derive(Clone, Copy)]
+struct Reach {
+    past: usize,
+    size: usize,
+}
+
+// What `several` has read: how far the places are filled, how many marks there are, the next place, and the run there that reaches the
+// end, if it is known.
 #[derive(Drop)]
 struct Stretch {
     filled: usize,
     count: usize,
     place: usize,
-    past: usize,
-    size: usize,
-}
-
-fn come_to(filled: usize, count: usize, place: usize, past: usize, size: usize) -> Stretch
-    ensures { (result.filled ≡ filled) × (result.count ≡ count) × (result.place ≡ place) × (result.past ≡ past) × (result.size ≡ size) }
-{
-    Stretch {
-        filled: filled,
-        count: count,
-        place: place,
-        past: past,
-        size: size,
-    }
+    reach: Option<Reach>,
 }
 
 // The runs whose codes stand whole in one word of bits: leading zeros, a shift and a mark each.
+// No `for`: a turn takes a code off the word, and how many stand in it is known when none is left.
 fn several(
     octets: &[u8],
     at: usize,
@@ -94,7 +87,12 @@ fn several(
         }
         let p = filled + read_bits::run_in(word, zeros, s);
         if d <= p {
-            return come_to(filled, count, at + (all - good), p, size);
+            return Stretch {
+                filled,
+                count,
+                place: at + (all - good),
+                reach: Some(Reach { past: p, size }),
+            };
         }
         cells[p] = other;
         filled = p + 1;
@@ -102,25 +100,34 @@ fn several(
         word = word << size;
         good -= size;
     }
-    come_to(filled, count, at + (all - good), 0, 0)
+    Stretch {
+        filled,
+        count,
+        place: at + (all - good),
+        reach: None,
+    }
 }
 
 // A run that reaches the end of D places: none is wanted, it is too long, or its closing sample is imagined.
-fn ended(t: Stretch, d: usize) -> Outcome
-    requires { (t.place ≤ 2 ^ 40) × (t.size ≤ 41) }
-    ensures { result ≡ end_of d t }
+fn ended(filled: usize, count: usize, place: usize, run: Reach, d: usize) -> Outcome
+    requires { (place ≤ 2 ^ 40) × (run.size ≤ 41) }
+    ensures { result ≡ end_of d filled count place run }
 {
-    if d <= t.filled {
-        return Outcome::Got(t.count, t.place);
+    if d <= filled {
+        Ok((count, place))
+    } else if d < run.past {
+        Err(Stop {
+            why: Refusal::Run,
+            bit: place,
+        })
+    } else {
+        Ok((count, place + run.size))
     }
-    if d < t.past {
-        return Outcome::Refused(Refusal::Run, t.place);
-    }
-    Outcome::Got(t.count, t.place + t.size)
 }
 
 // "Runs over D places": v places of the common kind, then one of the other, till all D are filled.
 // The answer is the number of the other kind and the next place, or the refusal and its bit.
+// No `for`: a turn is a word or a code, and the places that it fills are known when it is read.
 pub fn runs(
     octets: &[u8],
     at: usize,
@@ -145,31 +152,25 @@ pub fn runs(
         filled = t.filled;
         count = t.count;
         place = t.place;
-        if 0 < t.size {
-            break ended(t, d);
+        if let Some(run) = t.reach {
+            break ended(filled, count, place, run, d);
         }
         if before < filled {
             continue;
         }
         if d <= filled {
-            break Outcome::Got(count, place);
+            break Ok((count, place));
         }
         // A code that no word holds whole
         let left = d - filled;
-        match run(octets, place, n, s, left) {
-            Outcome::Refused(why, bit) => {
-                break Outcome::Refused(why, bit);
-            }
-            Outcome::Got(v, next) => {
-                if v == left {
-                    break Outcome::Got(count, next);
-                }
-                cells[filled + v] = other;
-                filled += v + 1;
-                count += 1;
-                place = next;
-            }
+        let (v, next) = run(octets, place, n, s, left)?;
+        if v == left {
+            break Ok((count, next));
         }
+        cells[filled + v] = other;
+        filled += v + 1;
+        count += 1;
+        place = next;
     }
 }
 
@@ -177,13 +178,11 @@ pub fn runs(
 fn kind(flag: u16, common: u8, other: u8) -> u8
     ensures { result ≡ kind_of common other flag }
 {
-    if flag == 1 {
-        return other;
-    }
-    common
+    if flag == 1 { other } else { common }
 }
 
 // The n low bits of v, highest first, as cells from a place on: at most eight, so that the compiler lays them at once.
+// By an index, since it is the bit's and the cell's.
 fn few(cells: &mut [u8; 320], from: usize, v: u16, n: usize, common: u8, other: u8)
     requires { (from + n ≤ 320) × (n ≤ 8) × (length cells.old ≡ 320) }
     ensures { Put cells.old from (kinds common other (low_bits n v)) cells.new
@@ -194,7 +193,7 @@ fn few(cells: &mut [u8; 320], from: usize, v: u16, n: usize, common: u8, other: 
     }
 }
 
-// The same of a whole window of 32 bits.
+// The same of a whole window of 32 bits, with no loop: nearly every window is whole.
 fn spread_all(cells: &mut [u8; 320], from: usize, v: usize, common: u8, other: u8)
     requires { (from + 32 ≤ 320) × (length cells.old ≡ 320) }
     ensures { Put cells.old from (kinds common other (low_bits 32 v)) cells.new }
@@ -205,7 +204,8 @@ fn spread_all(cells: &mut [u8; 320], from: usize, v: usize, common: u8, other: u
     few(cells, from + 24, (v % 256) as u16, 8, common, other);
 }
 
-// The same of a window, eight bits at a time.
+// The same of a window, eight bits at a time; the last of them may be fewer.
+// The place is counted by hand: a `step_by` leaves its end open, which the last bits need.
 fn spread(cells: &mut [u8; 320], from: usize, v: usize, n: usize, common: u8, other: u8)
     requires { (from + n ≤ 320) × (n ≤ 32) × (length cells.old ≡ 320) }
     ensures { Put cells.old from (kinds common other (low_bits n v)) cells.new }
@@ -223,17 +223,9 @@ fn spread(cells: &mut [u8; 320], from: usize, v: usize, n: usize, common: u8, ot
     few(cells, from + j, rest as u16, n - j, common, other);
 }
 
-// At most 32 of the places left.
-fn window(left: usize) -> usize
-    ensures { result ≡ min left 32 }
-{
-    if left < 32 {
-        return left;
-    }
-    32
-}
-
-// "D bits, where a 1 is an occurrence and the number of occurrences is the number of one bits", a window at a time.
+// "D bits, where a 1 is an occurrence and the number of occurrences is the number of one bits", a window at a time; the last may
+// be shorter.
+// By hand, since the windows go on by 32 and the last by what is left.
 pub fn straight(
     octets: &[u8],
     at: usize,
@@ -250,18 +242,12 @@ pub fn straight(
     let mut count = 0;
     let mut place = at;
     while filled < d {
-        let n = window(d - filled);
-        match read_bits::number(octets, place, n) {
-            Outcome::Refused(why, bit) => {
-                return Outcome::Refused(why, bit);
-            }
-            Outcome::Got(v, next) => {
-                spread(cells, filled, v, n, common, other);
-                count += u32::count_ones(v as u32) as usize;
-                filled += n;
-                place = next;
-            }
-        }
+        let n = (d - filled).min(32);
+        let (v, next) = read_bits::number(octets, place, n)?;
+        spread(cells, filled, v, n, common, other);
+        count += u32::count_ones(v as u32) as usize;
+        filled += n;
+        place = next;
     }
-    Outcome::Got(count, place)
+    Ok((count, place))
 }

@@ -7,9 +7,7 @@ use Rattle.rules.specs.Frame.{Found, with_tool}
 use Rattle.rules.specs.Calls.{read_end, read_samples, read_octets, read_bits, read_tool, read_bit, at_start}
 use Rattle.read_opening.specs.declared.Head.{Head}
 use Rattle.read_opening.specs.Opening.{body_of}
-use Rattle.read_bodies.specs.Plainly.{laid_by, Lies}
 use Rattle.reader.specs.declared.Report.{Report}
-use Rattle.reader.specs.declared.Given.{Given}
 
 -- the reading of a frame whose head is read
 abbrev pub after_head : ℕ → ℕ → ℕ → Head → List ℕ → Read Found
@@ -26,12 +24,6 @@ pub record Tells (found : Read Found) (r : Report) : Type 0 where
   pub bits : r.bits ≡ read_bits found
   pub tool : r.tool ≡ read_tool found
   pub bit : r.bit ≡ read_bit found
-
--- what is to be laid, n samples, is the frame's, and there is room for it
-pub record Gives (found : Read Found) (octets : List ℕ) (n room : ℕ) (r : Given) : Type 0 where
-  pub tells : Tells found r.report
-  pub samples : laid_by r.body octets n ≡ read_samples found
-  pub lies : Lies r.body octets n room
 
 -- the samples are the first of the frame buffer's 320
 pub record Fills (found : Read Found) (r : Report) (buffer : List ℕ) : Type 0 where

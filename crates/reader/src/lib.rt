@@ -1,21 +1,20 @@
 // Reading one frame: "in a frame PREFIX, tool decided, TOOL, ROOM, then body checks as the bits come, ALIGN last".
 #![tactic(auto)]
 
-ghost use Rattle.std.specs.Prelude.{◌≡◌, ℕ, ◌+◌, ◌*◌, ◌/◌, ◌%◌, ◌^◌, ◌≤◌, ◌<◌, List, [], ◌++◌, length, take, drop, cond, eqb};
-ghost use Rattle.rules.specs.Bits.{bits_of, fill_for};
-ghost use Rattle.rules.specs.Reading.{whole, refuse, filled};
+ghost use Rattle.std.specs.Prelude.{◌≡◌, ◌*◌, ◌%◌, ◌^◌, ◌≤◌, ◌<◌, ◌++◌, length, take, drop, cond, eqb};
+ghost use Rattle.rules.specs.Bits.{bits_of};
 ghost use Rattle.rules.specs.Located.{located};
 ghost use Rattle.rules.specs.Fractional.{fractional};
 ghost use Rattle.rules.specs.Frame.{read_one};
 ghost use Rattle.rules.specs.Calls.{ReadFrame};
 ghost use Rattle.read_bodies.specs.Bodied.{FillsBody};
-ghost use Rattle.read_bits.specs.Outcomes.{as_read};
 ghost use Rattle.read_opening.specs.Opening.{body_of, HeadFits};
-ghost use Rattle.reader.specs.Answers.{Tells, Fills, Measures, Gives, ReadsInto, after_head, finish};
+ghost use Rattle.reader.specs.Answers.{Fills, Measures, ReadsInto, after_head};
+ghost use Rattle.reader.specs.Taken.{report_of, Few, Held, FillingIs, Gives, Takes, TakesInto, Sizes};
 
-use read_bits::Outcome;
+use read_bits::{Outcome, Stop};
 use read_bodies::plain::{Plain, lay, plain_of};
-use read_opening::{Head, Opening, opens};
+use read_opening::{Head, opens};
 use rules::{Ending, Frame, ReadAnswer, Refusal};
 
 // What a reading reports; its samples stand where they were put. `bit` is the refusal's.
@@ -36,9 +35,10 @@ fn few_values(octets: &[u8], mask: u8, h: Head, samples: &mut [u8; 320]) -> Outc
         (bits_of octets.now) h.at) (2 ^ 41) samples.old samples.new result }
 {
     if h.tool == 11 {
-        return read_fractional::body(octets, h.at, h.len, h.mark, mask, samples);
+        read_fractional::body(octets, h.at, h.len, h.mark, mask, samples)
+    } else {
+        read_located::located(octets, h.at, h.len, mask, samples)
     }
-    read_located::located(octets, h.at, h.len, mask, samples)
 }
 
 // The body of a tool that the set holds and that is none of 1 to 4, into the lent samples.
@@ -47,138 +47,122 @@ fn body_of(octets: &[u8], mask: u8, h: Head, samples: &mut [u8; 320]) -> Outcome
     ensures { FillsBody (body_of mask h (bits_of octets.now) h.at) (2 ^ 41)
         samples.old samples.new result }
 {
-    let tool = h.tool;
-    let n = h.len;
-    let at = h.at;
-    match tool {
-        5 => read_bodies::binary(octets, at, n, mask, samples),
-        6 => read_bodies::plus_minus(octets, at, n, h.mark as u8, mask, samples),
+    match h.tool {
+        5 => read_bodies::binary(octets, h.at, h.len, mask, samples),
+        6 => read_bodies::plus_minus(octets, h.at, h.len, h.mark as u8, mask, samples),
         _ => few_values(octets, mask, h, samples),
     }
 }
 
 // "ALIGN last": the bits that fill a frame's last octet, from the frame's end on.
-fn filling(octets: &[u8], end: usize) -> Outcome
+fn filling(octets: &[u8], end: usize) -> Result<(), Stop>
     requires { (end ≤ 8 * length octets.now) × (end ≤ 2 ^ 41) }
-    ensures { as_read result ≡ filled 0 (fill_for end) (bits_of octets.now) end }
+    ensures { FillingIs octets.now end result }
 {
-    let mut at = end;
-    while at % 8 != 0 {
+    for at in end..8 * ((end + 7) / 8) {
         if read_bits::bit_at(octets, at) == 1 {
-            return Outcome::Refused(Refusal::Align, at);
+            return Err(Stop {
+                why: Refusal::Align,
+                bit: at,
+            });
         }
-        at += 1;
     }
-    Outcome::Got(0, at)
+    Ok(())
 }
 
-// "A refused single call .. reports 0 samples, 0 octets used, 0 bits and tool 0, save that TOOL gives the tool", and the refusal's bit.
-fn refused(why: Refusal, bit: usize) -> Report
-    ensures { Tells (refuse why bit) result }
-{
-    let tool = rules::refusal_tool(why);
-    Report {
-        end: Ending::Refused(why),
-        len: 0,
-        octets: 0,
-        bits: 0,
-        tool,
-        bit,
-    }
+// An accepted frame: its tool, the number of its samples, and the bits of prefix and body and nothing else.
+#[derive(Clone, Copy)]
+struct Taken {
+    tool: u32,
+    len: usize,
+    bits: usize,
 }
 
 // "A pad reports 8 bits."
-fn pad() -> Report
-    ensures { Tells (whole (record { tool = 0; samples = []; bits = 8 }) 8) result }
+const PAD: Taken = Taken {
+    tool: 0,
+    len: 0,
+    bits: 8,
+};
+
+// "A refused single call .. reports 0 samples, 0 octets used, 0 bits and tool 0, save that TOOL gives the tool", and the refusal's bit.
+fn report_of(found: Result<Taken, Stop>) -> Report
+    requires { Few found }
+    ensures { result ≡ report_of found }
 {
-    Report {
-        end: Ending::Done,
-        len: 0,
-        octets: 1,
-        bits: 8,
-        tool: 0,
-        bit: 0,
+    match found {
+        Ok(frame) => Report {
+            end: Ok(()),
+            len: frame.len,
+            octets: (frame.bits + 7) / 8,
+            bits: frame.bits,
+            tool: frame.tool,
+            bit: 0,
+        },
+        Err(stop) => Report {
+            end: Err(stop.why),
+            len: 0,
+            octets: 0,
+            bits: 0,
+            tool: stop.why.tool(),
+            bit: stop.bit,
+        },
     }
 }
 
-// An accepted frame: the number of samples, and the bits of prefix and body and nothing else.
-fn accepted(tool: u32, len: usize, bits: usize) -> Report
-    requires { bits ≤ 2 ^ 41 }
-    ensures { (s : List ℕ) (j : ℕ) → len ≡ length s → Tells (whole (record { tool = tool; samples = s; bits = bits }) j) result }
+// The tool is decided: TOOL, then ROOM.
+fn admitted(set: u32, room: usize, h: Head) -> Result<(), Stop>
+    ensures { Held set room h result }
 {
-    Report {
-        end: Ending::Done,
-        len,
-        octets: (bits + 7) / 8,
-        bits,
-        tool,
-        bit: 0,
+    if !first_octet::holds(set, h.tool) {
+        return Err(Stop {
+            why: Refusal::Tool(h.tool),
+            bit: 0,
+        });
     }
-}
-
-// "ALIGN last".
-fn finished(octets: &[u8], tool: u32, len: usize, bits: usize) -> Report
-    requires { (bits ≤ 8 * length octets.now) × (bits ≤ 2 ^ 41) }
-    ensures { (s : List ℕ) → len ≡ length s → Tells (finish tool s bits (bits_of octets.now)) result }
-{
-    match filling(octets, bits) {
-        Outcome::Refused(why, bit) => refused(why, bit),
-        Outcome::Got(_, _) => accepted(tool, len, bits),
+    if room < h.len {
+        return Err(Stop {
+            why: Refusal::Room,
+            bit: 0,
+        });
     }
+    Ok(())
 }
 
-// What a frame of tools 1 to 4 reports, and what is to be laid of it: nothing where it is refused.
-#[derive(Drop)]
-struct Given {
-    report: Report,
-    body: Plain,
-}
-
-// The tool is one of 1 to 4: TOOL, ROOM, SHORT. They end with an octet, so nothing is left to fill.
-fn plain_frame(octets: &[u8], law: u32, set: u32, room: usize, h: Head) -> Given
+// What is to be laid of a frame of tools 1 to 4, and its bits: TOOL, ROOM, SHORT. They end with an octet, so nothing is left to fill.
+fn plain_frame(
+    octets: &[u8],
+    law: u32,
+    set: u32,
+    room: usize,
+    h: Head,
+) -> Result<(Plain, usize), Stop>
     requires { (HeadFits h) × (h.tool ≤ 4) }
-    ensures { Gives (after_head law set room h octets.now) octets.now h.len room result }
+    ensures { Gives (after_head law set room h octets.now) octets.now h room result }
 {
-    let tool = h.tool;
-    let len = h.len;
-    if !first_octet::holds(set, tool) {
-        return Given {
-            report: refused(Refusal::Tool(tool), 0),
-            body: Plain::Short(0),
-        };
-    }
-    if room < len {
-        return Given {
-            report: refused(Refusal::Room, 0),
-            body: Plain::Short(0),
-        };
-    }
-    let body = plain_of(octets, tool, len, law::mask_of(law));
-    match body {
-        Plain::Short(bit) => Given {
-            report: refused(Refusal::Short, bit),
-            body: Plain::Short(0),
-        },
-        Plain::Octets => Given {
-            report: accepted(tool, len, 8 + 8 * len),
-            body: Plain::Octets,
-        },
-        Plain::Same(x, bits) => Given {
-            report: accepted(tool, len, bits),
-            body: Plain::Same(x, bits),
-        },
-    }
+    admitted(set, room, h)?;
+    plain_of(octets, h.tool, h.len, law::mask_of(law))
 }
 
 // The same, laid at the start of some cells.
-fn plain_into(octets: &[u8], law: u32, set: u32, room: usize, h: Head, cells: &mut [u8]) -> Report
+fn plain_into(
+    octets: &[u8],
+    law: u32,
+    set: u32,
+    room: usize,
+    h: Head,
+    cells: &mut [u8],
+) -> Result<Taken, Stop>
     requires { (HeadFits h) × (h.tool ≤ 4) × ((h.len ≤ room → h.len ≤ length cells.old)) }
-    ensures { ReadsInto (after_head law set room h octets.now) result cells.old cells.new }
+    ensures { TakesInto (after_head law set room h octets.now) result cells.old cells.new }
 {
-    let given = plain_frame(octets, law, set, room, h);
-    let body = given.body;
+    let (body, bits) = plain_frame(octets, law, set, room, h)?;
     lay(body, octets, h.len, cells);
-    given.report
+    Ok(Taken {
+        tool: h.tool,
+        len: h.len,
+        bits,
+    })
 }
 
 // The tool is decided, and none of 1 to 4: TOOL, ROOM, the body, ALIGN. An accepted frame's samples are the first of those lent.
@@ -189,21 +173,90 @@ fn with_tool(
     room: usize,
     h: Head,
     samples: &mut [u8; 320],
-) -> Report
+) -> Result<Taken, Stop>
     requires { (HeadFits h) × (5 ≤ h.tool) × (1 ≤ length octets.now) × (length samples.old ≡ 320) }
-    ensures { Fills (after_head law set room h octets.now) result samples.new }
+    ensures { Takes (after_head law set room h octets.now) result samples.new }
 {
-    let tool = h.tool;
-    if !first_octet::holds(set, tool) {
-        return refused(Refusal::Tool(tool), 0);
+    admitted(set, room, h)?;
+    // A body read whole has the frame's length.
+    let (_, bits) = body_of(octets, law::mask_of(law), h, samples)?;
+    filling(octets, bits)?;
+    Ok(Taken {
+        tool: h.tool,
+        len: h.len,
+        bits,
+    })
+}
+
+// One frame, its samples at a frame buffer's start.
+fn fill(
+    octets: &[u8],
+    law: u32,
+    set: u32,
+    room: usize,
+    samples: &mut [u8; 320],
+) -> Result<Taken, Stop>
+    requires { length samples.old ≡ 320 }
+    ensures { Takes (read_one octets.now law set room) result samples.new }
+{
+    let opening = opens(octets, law, set)?;
+    match opening {
+        None => Ok(PAD),
+        Some(h) => {
+            if h.tool <= 4 {
+                plain_into(octets, law, set, room, h, samples)
+            } else {
+                with_tool(octets, law, set, room, h, samples)
+            }
+        }
     }
-    if room < h.len {
-        return refused(Refusal::Room, 0);
+}
+
+// One frame with no samples wanted: those of tools 1 to 4 are not laid.
+fn measure(
+    octets: &[u8],
+    law: u32,
+    set: u32,
+    room: usize,
+    samples: &mut [u8; 320],
+) -> Result<Taken, Stop>
+    requires { length samples.old ≡ 320 }
+    ensures { Sizes (read_one octets.now law set room) result samples.new }
+{
+    let opening = opens(octets, law, set)?;
+    match opening {
+        None => Ok(PAD),
+        Some(h) => {
+            if h.tool <= 4 {
+                let (_, bits) = plain_frame(octets, law, set, room, h)?;
+                Ok(Taken {
+                    tool: h.tool,
+                    len: h.len,
+                    bits,
+                })
+            } else {
+                with_tool(octets, law, set, room, h, samples)
+            }
+        }
     }
-    match body_of(octets, law::mask_of(law), h, samples) {
-        Outcome::Refused(why, bit) => refused(why, bit),
-        // A body read whole has the frame's length.
-        Outcome::Got(_, bits) => finished(octets, tool, h.len, bits),
+}
+
+// One frame, its samples at the output's start.
+fn put(octets: &[u8], law: u32, set: u32, out: &mut [u8]) -> Result<Taken, Stop>
+    ensures { TakesInto (read_one octets.now law set (length out.old)) result out.old out.new }
+{
+    let opening = opens(octets, law, set)?;
+    match opening {
+        None => Ok(PAD),
+        Some(h) => {
+            if h.tool <= 4 {
+                return plain_into(octets, law, set, out.len(), h, out);
+            }
+            let mut samples = [0; 320];
+            let frame = with_tool(octets, law, set, out.len(), h, &mut samples)?;
+            put_out(&samples, frame.len, out);
+            Ok(frame)
+        }
     }
 }
 
@@ -213,16 +266,7 @@ pub fn fill_frame(octets: &[u8], law: u32, set: u32, room: usize, samples: &mut 
     requires { length samples.old ≡ 320 }
     ensures { Fills (read_one octets.now law set room) result samples.new }
 {
-    match opens(octets, law, set) {
-        Opening::Refused(why, bit) => refused(why, bit),
-        Opening::Pad => pad(),
-        Opening::Body(h) => {
-            if h.tool <= 4 {
-                return plain_into(octets, law, set, room, h, samples);
-            }
-            with_tool(octets, law, set, room, h, samples)
-        }
-    }
+    report_of(fill(octets, law, set, room, samples))
 }
 
 // The same report with no samples wanted: those of tools 1 to 4 are not laid. The frame buffer is for the others, and what is in it is not
@@ -237,16 +281,7 @@ pub fn measure_frame(
     requires { length samples.old ≡ 320 }
     ensures { Measures (read_one octets.now law set room) result samples.new }
 {
-    match opens(octets, law, set) {
-        Opening::Refused(why, bit) => refused(why, bit),
-        Opening::Pad => pad(),
-        Opening::Body(h) => {
-            if h.tool <= 4 {
-                return plain_frame(octets, law, set, room, h).report;
-            }
-            with_tool(octets, law, set, room, h, samples)
-        }
-    }
+    report_of(measure(octets, law, set, room, samples))
 }
 
 // The first n of some samples to the start of others; the rest of them stays as lent.
@@ -254,11 +289,7 @@ pub fn put_out(samples: &[u8], n: usize, out: &mut [u8])
     requires { (n ≤ length samples.now) × (n ≤ length out.old) }
     ensures { out.new ≡ take n samples.now ++ drop n out.old }
 {
-    let mut i = 0;
-    while i < n {
-        out[i] = samples[i];
-        i += 1;
-    }
+    out[..n].copy_from_slice(&samples[..n]);
 }
 
 // One frame read into the output: what is reported, and an accepted frame's samples at the output's start.
@@ -266,19 +297,7 @@ pub fn read_into(octets: &[u8], law: u32, set: u32, out: &mut [u8]) -> Report
     ensures { ReadsInto (read_one octets.now law set (length out.old))
         result out.old out.new }
 {
-    match opens(octets, law, set) {
-        Opening::Refused(why, bit) => refused(why, bit),
-        Opening::Pad => pad(),
-        Opening::Body(h) => {
-            if h.tool <= 4 {
-                return plain_into(octets, law, set, out.len(), h, out);
-            }
-            let mut samples = [0; 320];
-            let r = with_tool(octets, law, set, out.len(), h, &mut samples);
-            put_out(&samples, r.len, out);
-            r
-        }
-    }
+    report_of(put(octets, law, set, out))
 }
 
 // Reading one frame: the same samples as a frame that travels with its length, 00 past them.
@@ -286,13 +305,14 @@ pub fn read_frame(octets: &[u8], law: u32, set: u32, out: &mut [u8]) -> ReadAnsw
     ensures { ReadFrame octets.now law set out.old out.new result }
 {
     let r = read_into(octets, law, set, out);
-    let len = r.len;
     let mut samples = [0; 320];
-    put_out(out, len, &mut samples);
-    let end = r.end;
+    put_out(out, r.len, &mut samples);
     ReadAnswer {
-        end,
-        frame: Frame { samples, len },
+        end: r.end,
+        frame: Frame {
+            samples,
+            len: r.len,
+        },
         octets: r.octets,
         bits: r.bits,
         tool: r.tool,

@@ -7,16 +7,17 @@ use mathlib.Core.Bool.{Bool, true, false, cond, not, ◌&&◌}
 use lib.ListN.{length}
 use lib.Dec.{eqb, leb}
 use lib.IntN.{pos, negsuc}
-use borrow.Author.Tests.{eq-eqb, ne_eqb, eqb-true}
+use borrow.Author.Tests.{ne_eqb, eqb-true}
 use Rattle.rules.specs.Tools.{holds}
 use Rattle.rules.specs.Bits.{octets_for}
-use Rattle.rules.specs.Chooses.{applies, has_row, row_of, zero_leads, form_of}
-use Rattle.write_offers.specs.declared.Offer.{Offer}
+use Rattle.rules.specs.Chooses.{applies, has_row, row_of, zero_leads}
+use Rattle.std.proofs.Common.{Ok, Err}
+use Rattle.write_offers.specs.declared.Condition.{Condition}
 use Rattle.write_offers.specs.Offers as offers
-use Rattle.write_offers.specs.Offers.{OfferIs}
+use Rattle.write_offers.specs.Offers.{condition_told, condition-not-zero, OfferIs}
 use Rattle.reasons.specs.declared.State.TheVariants.{Out, No, Fits}
 use Rattle.reasons.specs.Why.{located_conditions, conditions, first_failing, failing, state_of}
-use Rattle.reasons.proofs.Promises.{failing-applies, fits-when, out-when}
+use Rattle.reasons.proofs.Promises.{fits-when, out-when}
 
 -- the first failing condition, as the offer tells it
 of_three : (a b c d e : Bool) → cond (a && b && c && d && e) 0 (cond a (cond b 3 2) 1) ≡ first_failing 1 (a ∷ b ∷ (c && d && e) ∷ [])
@@ -53,16 +54,12 @@ module _ (mask set : ℕ) (s : List ℕ) (t : ℕ) (some : 1 ≤ length s) where
   pub state-out : holds set t ≡ false → Out ≡ state_of mask set s t
   state-out e = sym (out-when mask set s t e)
 
-  module _ (o : Offer) (held : holds set t ≡ true) (is : OfferIs mask t s o) where
-    told : o.why ≡ failing mask s t
-    told = is.why ∙ offer-failing mask s t some
-
-    pub state-no : (o.why ≡ 0 → ⊥) → No o.why ≡ state_of mask set s t
+  module _ (held : holds set t ≡ true) where
+    pub state-no : (why : Condition) → OfferIs mask t s (Err why) → No (condition_told why) ≡ state_of mask set s t
     unfolding state_of
-    state-no n = rw (held, ← told, ne_eqb o.why 0 n)
+    state-no why is =
+        let told : condition_told why ≡ failing mask s t = is.1 ∙ offer-failing mask s t some in
+        rw (held, ← told, ne_eqb (condition_told why) 0 (condition-not-zero why))
 
-    pub state-fits : {octets : ℕ} → o.why ≡ 0 → octets ≡ octets_for o.bits → Fits octets ≡ state_of mask set s t
-    state-fits {octets} e f =
-        let fit : applies mask t s ≡ true = sym (failing-applies mask s t some) ∙ eq-eqb (failing mask s t) 0 (sym told ∙ e) in
-        let bits : o.bits ≡ length (form_of mask t s) = rw fit at is.bits in
-        ap Fits (f ∙ ap octets_for bits) ∙ sym (fits-when mask set s t some held fit)
+    pub state-fits : {bits octets : ℕ} → OfferIs mask t s (Ok bits) → octets ≡ octets_for bits → Fits octets ≡ state_of mask set s t
+    state-fits is f = ap Fits (f ∙ ap octets_for is.1.0) ∙ sym (fits-when mask set s t some held is.0)

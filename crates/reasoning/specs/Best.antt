@@ -1,14 +1,13 @@
 -- The winner and by what it won, from the states alone: what the steps of the code give. proofs/Winning holds them against reasons,
 -- specs/Why.
-use Rattle.std.specs.Prelude.{ℕ, ◌+◌, List, Bool, false, cond, not, ◌&&◌, ◌||◌, eqb, leb}
+use Rattle.std.specs.Prelude.{ℕ, ◌+◌, List, Bool, false, cond, not, ◌&&◌, ◌||◌, eqb, leb, Result, Ok, Err}
 use Rattle.rules.specs.declared.Refusal.TheVariants.{Length}
 use Rattle.rules.specs.Tools.{holds, is_length}
 use Rattle.reasons.specs.declared.State.{State}
 use Rattle.reasons.specs.declared.State.TheVariants.{Out, No, Fits}
 use Rattle.reasons.specs.declared.States.{States}
 use Rattle.reasons.specs.declared.Reasons.{Reasons}
-use Rattle.reasons.specs.declared.Why.{Why}
-use Rattle.reasons.specs.declared.Why.TheVariants.{Told, Refused}
+use Rattle.rules.specs.declared.Refusal.{Refusal}
 use Rattle.reasons.specs.Why.{needs, reasons_of}
 use Rattle.reasoning.specs.declared.Best.{Best}
 
@@ -61,5 +60,5 @@ empty_reasons set =
     }
 
 -- once LAW and SET are met
-abbrev pub why_allowed : ℕ → List ℕ → ℕ → ℕ → Why
-why_allowed n s mask set = cond (not (eqb n 0 || is_length n)) (Refused Length) (Told (reasons_of mask set s))
+abbrev pub why_allowed : ℕ → List ℕ → ℕ → ℕ → Result Reasons Refusal
+why_allowed n s mask set = cond (not (eqb n 0 || is_length n)) (Err Length) (Ok (reasons_of mask set s))

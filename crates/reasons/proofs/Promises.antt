@@ -22,8 +22,9 @@ use Rattle.rules.proofs.Chosen.{chosen-usable}
 use Rattle.reasons.specs.declared.State.{State}
 use Rattle.reasons.specs.declared.State.TheVariants.{Out, No, Fits}
 use Rattle.reasons.specs.declared.Reasons.{Reasons}
-use Rattle.reasons.specs.declared.Why.{Why}
-use Rattle.reasons.specs.declared.Why.TheVariants.{Told, Refused}
+use Rattle.std.proofs.Common.{Ok, Err}
+use Rattle.std.specs.declared.result.Result.{Result}
+use Rattle.rules.specs.declared.Refusal.{Refusal}
 use Rattle.reasons.specs.Why.{located_conditions, conditions, first_failing, failing, state_of, winner_of, needs}
 use Rattle.reasons.specs.Why.{octets_written, also_needs, any_of, tools, reasons_of, why_one}
 
@@ -243,13 +244,13 @@ tie-when mask set s a =
     (rw (ne_eqb a.tool (winner_of mask set s) a.other, a.fits) (eq-eqb (octets_written mask set s) (octets_written mask set s) refl))
 
 -- "Refusals as for the writer, ROOM left out": with room enough the writer refuses what is refused here, and writes else
-abbrev pub writer_of : Why → Written → Write
-writer_of (Told r) w = wrote w
-writer_of (Refused why) w = declined why
+abbrev pub writer_of : Result Reasons Refusal → Written → Write
+writer_of (Ok r) w = wrote w
+writer_of (Err why) w = declined why
 
 same-order : (a b c : Bool) (w : Written) (r : Reasons)
     → cond a (declined Law) (cond b (declined Set) (cond c (declined Length) (wrote w)))
-    ≡ writer_of (cond a (Refused Law) (cond b (Refused Set) (cond c (Refused Length) (Told r)))) w
+    ≡ writer_of (cond a (Err Law) (cond b (Err Set) (cond c (Err Length) (Ok r)))) w
 same-order true b c w r = refl
 same-order false true c w r = refl
 same-order false false true w r = refl

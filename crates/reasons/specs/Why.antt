@@ -3,6 +3,9 @@
 -- R-14: "R-10 with an eighth line", that of tool 11, after tool 7; it has one condition.
 -- Document 01's own words, what applies, the forms and the choice, stand in rules, specs/Chooses.
 use Rattle.std.specs.Prelude.{ℕ, ◌+◌, List, [], ◌∷◌, Bool, false, cond, not, ◌&&◌, ◌||◌, length, take, eqb, leb, pos, negsuc}
+use Rattle.std.specs.Prelude.{Ok, Err}
+use Rattle.std.specs.declared.result.Result.{Result}
+use Rattle.rules.specs.declared.Refusal.{Refusal}
 use Rattle.rules.specs.declared.Refusal.TheVariants.{Length}
 use Rattle.rules.specs.Refusals.{judged}
 use Rattle.rules.specs.Tools.{holds, is_length, writer_asks}
@@ -13,8 +16,6 @@ use Rattle.reasons.specs.declared.State.{State}
 use Rattle.reasons.specs.declared.State.TheVariants.{Out, No, Fits}
 use Rattle.reasons.specs.declared.States.{States}
 use Rattle.reasons.specs.declared.Reasons.{Reasons}
-use Rattle.reasons.specs.declared.Why.{Why}
-use Rattle.reasons.specs.declared.Why.TheVariants.{Told, Refused}
 
 -- "Value-location's conditions are 1 the length, 2 the row, 3 the frequency of 0; other tools have one, numbered 1."
 -- "A frame of no samples fails condition 1 of every tool": that of value-location asks 80 samples or more.
@@ -79,8 +80,8 @@ unfoldable pub reasons_of : ℕ → ℕ → List ℕ → Reasons
 reasons_of mask set s = record { states = states_of mask set s; winner = winner_of mask set s; tie = any_of (also_needs mask set s) tools }
 
 -- n samples, the first of those given. "Refusals as for the writer, ROOM left out."
-unfoldable pub why_one : ℕ → List ℕ → ℕ → ℕ → Why
+unfoldable pub why_one : ℕ → List ℕ → ℕ → ℕ → Result Reasons Refusal
 why_one n samples law set =
-    judged (writer_asks law set) Refused
-    (cond (not (eqb n 0 || is_length n)) (Refused Length)
-    (Told (reasons_of (mask_of law) set (take n samples))))
+    judged (writer_asks law set) Err
+    (cond (not (eqb n 0 || is_length n)) (Err Length)
+    (Ok (reasons_of (mask_of law) set (take n samples))))

@@ -4,12 +4,13 @@
 ghost use Rattle.std.specs.Prelude.{◌+◌, ◌≤◌, length};
 ghost use Rattle.rules.specs.Listing.{field};
 ghost use Rattle.text_lines.specs.Puts.{Puts};
-ghost use Rattle.reasons.specs.Lines.{fields_line, tool_line, by_word, winner_line, first_lines, later_lines, lines_of};
+ghost use Rattle.reasons.specs.Lines.{fields_line, tool_line, by_word, winner_line, lines_of};
 ghost use Rattle.reasons.specs.Calls.{Prints};
 
 use rules::Refusal;
 
 // "not in the set, doesn't apply with the first failing condition of document 01, or its octets".
+// The condition is the paper's number, and is printed as such.
 #[derive(Clone, Copy)]
 pub enum State {
     Out,
@@ -18,6 +19,7 @@ pub enum State {
 }
 
 // "list tools 1 to 7 in order", and 11 after them (R-14): the state of each.
+// No array: the paper's listing names the tools, and the theorem `lines-back` goes by the eight names.
 #[derive(Clone, Copy)]
 pub struct States {
     pub uncompressed: State,
@@ -31,6 +33,7 @@ pub struct States {
 }
 
 // "Then name the winner .., and whether it won by octets or by the tie order."
+// The winner is the paper's number of a tool, and is printed as such.
 #[derive(Clone, Copy)]
 pub struct Reasons {
     pub states: States,
@@ -39,11 +42,7 @@ pub struct Reasons {
 }
 
 // The reasons, or the writer's refusal.
-#[derive(Clone, Copy)]
-pub enum Why {
-    Told(Reasons),
-    Refused(Refusal),
-}
+pub type Why = Result<Reasons, Refusal>;
 
 // A word and a number of at most ten digits.
 fn put_short(word: &[u8], n: u32, out: &mut [u8], at: usize) -> usize
@@ -88,9 +87,10 @@ fn put_by(tie: bool, out: &mut [u8], at: usize) -> usize
     ensures most { result ≤ at + 6 }
 {
     if tie {
-        return text_lines::put_word(b"tie", out, at);
+        text_lines::put_word(b"tie", out, at)
+    } else {
+        text_lines::put_word(b"octets", out, at)
     }
-    text_lines::put_word(b"octets", out, at)
 }
 
 // "and last `winner=6 by=octets`".
@@ -105,38 +105,6 @@ fn put_winner(winner: u32, tie: bool, out: &mut [u8], at: usize) -> usize
     text_lines::put_word(b"\n", out, c)
 }
 
-// The lines of tools 1 to 4.
-fn put_first(s: States, out: &mut [u8], at: usize) -> usize
-    requires { at + 250 ≤ length out.old }
-    ensures puts { Puts out.old at (first_lines s) out.new result }
-    ensures most { result ≤ at + 240 }
-{
-    let uncompressed = s.uncompressed;
-    let plus = s.plus;
-    let minus = s.minus;
-    let constant = s.constant;
-    let a = put_tool(1, uncompressed, out, at);
-    let b = put_tool(2, plus, out, a);
-    let c = put_tool(3, minus, out, b);
-    put_tool(4, constant, out, c)
-}
-
-// The lines of tools 5 to 7, and 11.
-fn put_later(s: States, out: &mut [u8], at: usize) -> usize
-    requires { at + 250 ≤ length out.old }
-    ensures puts { Puts out.old at (later_lines s) out.new result }
-    ensures most { result ≤ at + 240 }
-{
-    let binary = s.binary;
-    let rice = s.rice;
-    let located = s.located;
-    let fractional = s.fractional;
-    let a = put_tool(5, binary, out, at);
-    let b = put_tool(6, rice, out, a);
-    let c = put_tool(7, located, out, b);
-    put_tool(11, fractional, out, c)
-}
-
 // All lines from place `at` on, of which there are at most 508 octets.
 pub fn put_reasons(r: Reasons, out: &mut [u8], at: usize) -> usize
     requires { at + 512 ≤ length out.old }
@@ -144,9 +112,15 @@ pub fn put_reasons(r: Reasons, out: &mut [u8], at: usize) -> usize
     ensures most { result ≤ at + 508 }
 {
     let s = r.states;
-    let a = put_first(s, out, at);
-    let b = put_later(s, out, a);
-    put_winner(r.winner, r.tie, out, b)
+    let a = put_tool(1, s.uncompressed, out, at);
+    let b = put_tool(2, s.plus, out, a);
+    let c = put_tool(3, s.minus, out, b);
+    let d = put_tool(4, s.constant, out, c);
+    let e = put_tool(5, s.binary, out, d);
+    let f = put_tool(6, s.rice, out, e);
+    let g = put_tool(7, s.located, out, f);
+    let h = put_tool(11, s.fractional, out, g);
+    put_winner(r.winner, r.tie, out, h)
 }
 
 // The lines at the start of the lent octets; answers how many octets they are. The rest stays as lent.

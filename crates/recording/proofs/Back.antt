@@ -22,7 +22,7 @@ use Rattle.rules.proofs.Octets.{below-replicate, length-pack}
 use Rattle.rules.proofs.Signed.{law-mask}
 use Rattle.rules.proofs.Tests.{by_length}
 use Rattle.promises.proofs.Written.{Frames, full, chosen-back, chosen-short, tool-held}
-use Rattle.recording.specs.declared.Ending.TheVariants.{Done}
+use Rattle.std.proofs.Common.{Ok}
 use Rattle.recording.specs.Remembered.{heading, headed, heading_of, lost_octet, plus_plus, erased}
 use Rattle.recording.specs.Items.{Item, sound, lost, before, item_of, room_taken, items_from, read_file}
 use Rattle.recording.specs.Files.{Entry, frame, loss, entry_octets, entries_octets}
@@ -171,7 +171,7 @@ items_back : (law reader : ℕ) → is_law law ≡ true → is_set reader ≡ tr
     → All reader ps → at ≡ length pre → length (pieces_octets (mask_of law) ps) < fuel → room_for_all (mask_of law) (entries_in ps) ≤ room
     → length ps ≤ places
     → items_from fuel (pre ++ pieces_octets (mask_of law) ps) law reader at room places
-    ≡ record { items = pieces_read (mask_of law) ps; end = Done; place = at + length (pieces_octets (mask_of law) ps); bit = 0 }
+    ≡ record { items = pieces_read (mask_of law) ps; end = Ok tt; place = at + length (pieces_octets (mask_of law) ps); bit = 0 }
 unfolding pieces_octets pieces_read room_for_all items_from
 items_back law reader l e pre zero at room places a q h r k = absurd (omega arith)
 items_back law reader l e pre (suc fuel) at room places last q h r k =
@@ -204,7 +204,7 @@ pub file-back : (law reader room places : ℕ) (ps : List Piece) → is_law law 
     → read_file (heading_of law ++ pieces_octets (mask_of law) ps) reader room places
     ≡ record {
       law = law;
-      read = record { items = pieces_read (mask_of law) ps; end = Done; place = length (pieces_octets (mask_of law) ps); bit = 0 };
+      read = record { items = pieces_read (mask_of law) ps; end = Ok tt; place = length (pieces_octets (mask_of law) ps); bit = 0 };
     }
 unfolding read_file
 file-back law reader room places ps l e a h r k =

@@ -6,12 +6,11 @@ use mathlib.Core.Path.{◌≡◌, refl, sym, ap, ◌∙◌}
 use mathlib.Core.List.{List}
 use Rattle.rules.specs.declared.Refusal as rules
 use Rattle.rules.specs.declared.Refusal.TheVariants.{Short, Prefix, Tool, Room, Case, Method, Run, Place, Align, Length, Set, Law, Long}
-use Rattle.rules.specs.declared.Ending.TheVariants as ending
+use Rattle.std.proofs.Common.{Ok, Err}
 use Rattle.rules.specs.Refusals as refusals
 use Rattle.promises.proofs.Fits as fits
 use Rattle.recording.specs.declared.Refusal.TheVariants.{Head, Frame}
-use Rattle.recording.specs.declared.Ending.{Ending}
-use Rattle.recording.specs.declared.Ending.TheVariants.{Done, Refused}
+use Rattle.recording.specs.Endings.{Ending}
 use Rattle.recording.specs.declared.FileRead.{FileRead}
 use Rattle.recording.specs.declared.FileWritten.{FileWritten}
 use Rattle.recording.specs.Items.{File}
@@ -64,17 +63,17 @@ numbered Set = (omega arith, omega arith)
 numbered Law = (omega arith, omega arith)
 numbered Long = (omega arith, omega arith)
 
-same-refusal : {w u : rules.Refusal} → ending.Refused w ≡ ending.Refused u → w ≡ u
+same-refusal : {w u : rules.Refusal} → ◌≡◌ {A = refusals.Ending} (Err w) (Err u) → w ≡ u
 same-refusal e = cc
 
 pub endings-one-to-one : (a b : Ending) → number_of a ≡ number_of b → tool_named a ≡ tool_named b → a ≡ b
-endings-one-to-one Done Done n t = refl
-endings-one-to-one Done (Refused Head) n t = absurd (omega arith)
-endings-one-to-one Done (Refused (Frame u)) n t = absurd (omega (arith, numbered u))
-endings-one-to-one (Refused Head) Done n t = absurd (omega arith)
-endings-one-to-one (Refused Head) (Refused Head) n t = refl
-endings-one-to-one (Refused Head) (Refused (Frame u)) n t = absurd (omega (arith, numbered u))
-endings-one-to-one (Refused (Frame w)) Done n t = absurd (omega (arith, numbered w))
-endings-one-to-one (Refused (Frame w)) (Refused Head) n t = absurd (omega (arith, numbered w))
-endings-one-to-one (Refused (Frame w)) (Refused (Frame u)) n t =
-    ap (λ v. Refused (Frame v)) (same-refusal (fits.endings-one-to-one (ending.Refused w) (ending.Refused u) n t))
+endings-one-to-one (Ok _) (Ok _) n t = refl
+endings-one-to-one (Ok _) (Err Head) n t = absurd (omega arith)
+endings-one-to-one (Ok _) (Err (Frame u)) n t = absurd (omega (arith, numbered u))
+endings-one-to-one (Err Head) (Ok _) n t = absurd (omega arith)
+endings-one-to-one (Err Head) (Err Head) n t = refl
+endings-one-to-one (Err Head) (Err (Frame u)) n t = absurd (omega (arith, numbered u))
+endings-one-to-one (Err (Frame w)) (Ok _) n t = absurd (omega (arith, numbered w))
+endings-one-to-one (Err (Frame w)) (Err Head) n t = absurd (omega (arith, numbered w))
+endings-one-to-one (Err (Frame w)) (Err (Frame u)) n t =
+    ap (λ v. Err (Frame v)) (same-refusal (fits.endings-one-to-one (Err w) (Err u) n t))

@@ -19,18 +19,18 @@ use Rattle.rules.specs.Walk.{longest}
 use Rattle.promises.proofs.Further.{looks-no-further}
 use Rattle.text_keyvalue.specs.Reading.{begins}
 use Rattle.recording.specs.declared.Refusal.TheVariants.{Head, Frame}
-use Rattle.recording.specs.declared.Ending.TheVariants.{Done, Refused}
+use Rattle.std.proofs.Common.{Ok, Err}
 use Rattle.recording.specs.Remembered.{Headed, heading, no_heading, headed, heading_of, heading_length, lost_octet}
 use Rattle.recording.specs.Items.{Item, lost, Recorded, stopped, before, item_of, room_taken, after_read, items_from}
 use Rattle.recording.specs.Items.{File, nothing, by_heading, read_file}
 
 -- refused, and not with SHORT
 pub record Stands (w : refusal.Refusal) (r : Recorded) : Type 0 where
-  pub refused : r.end ≡ Refused (Frame w)
+  pub refused : r.end ≡ Err (Frame w)
   pub not_short : w ≡ rules.Short → ⊥
 
 -- so it has not ended cleanly
-never_done : {w : refusal.Refusal} {at bit : ℕ} {A : Type 0} → Stands w (stopped Done at bit) → A
+never_done : {w : refusal.Refusal} {at bit : ℕ} {A : Type 0} → Stands w (stopped (Ok tt) at bit) → A
 never_done s = let e = s.refused in let z : ◌≡◌ {A = ℕ} 0 1 = cc in absurd (omega arith)
 
 -- and what is refused behind an item is refused
@@ -38,7 +38,7 @@ behind : {w : refusal.Refusal} {i : Item} {r : Recorded} → Stands w (before i 
 behind s = record { refused = s.refused; not_short = s.not_short }
 
 clean-test : (w : refusal.Refusal) (b b' : Bool) (at : ℕ) {u v : Recorded} → (b ≡ false → b' ≡ false) → (b ≡ false → Stands w u → v ≡ u)
-    → Stands w (cond b (stopped Done at 0) u) → cond b' (stopped Done at 0) v ≡ cond b (stopped Done at 0) u
+    → Stands w (cond b (stopped (Ok tt) at 0) u) → cond b' (stopped (Ok tt) at 0) v ≡ cond b (stopped (Ok tt) at 0) u
 clean-test w true b' at g h s = never_done s
 clean-test w false b' at g h s = rw (g refl) (h refl s)
 
@@ -85,7 +85,7 @@ items-further (suc fuel) (suc again) octets more law set at room places w g s =
     clean-test w (leb (length octets) at) (leb (length (octets ++ more)) at) at
     (λ e. let h = leb-false (length octets) at e in let l = length-append octets more in lt-leb (length (octets ++ more)) at (omega arith))
     (λ e. let h = leb-false (length octets) at e in
-    same_test w (eqb places 0) (stopped (Refused (Frame rules.Room)) at 0)
+    same_test w (eqb places 0) (stopped (Err (Frame rules.Room)) at 0)
     (rw (get_or-append octets more 0 at h, drop-append-le at octets more (omega arith))
     (two-tests w (eqb (get_or octets at 0) lost_octet)
     (λ t. ap (before (lost 0)) (items-further fuel again octets more law set (at + 1) room (places - 1) w (omega arith) (behind t)))

@@ -18,7 +18,7 @@ use Rattle.rules.specs.Walk.{longest}
 use Rattle.rules.proofs.Tests.{and_left, and_right}
 use Rattle.text_keyvalue.specs.Reading.{begins}
 use Rattle.recording.specs.declared.Refusal.TheVariants.{Head, Frame}
-use Rattle.recording.specs.declared.Ending.TheVariants.{Done, Refused}
+use Rattle.std.proofs.Common.{Ok, Err}
 use Rattle.recording.specs.Remembered.{Headed, heading, no_heading, heading_of, heading_length, headed, lost_octet}
 use Rattle.recording.specs.Items.{Recorded, stopped, room_taken, after_read, items_from, File, nothing, by_heading, read_file}
 
@@ -82,12 +82,12 @@ headed-none octets e =
 
 -- a reading that did not end with HEAD
 abbrev NoHead : Recorded → Type 0
-NoHead r = r.end ≡ Refused Head → ⊥
+NoHead r = r.end ≡ Err Head → ⊥
 
-clean : (at bit : ℕ) → NoHead (stopped Done at bit)
+clean : (at bit : ℕ) → NoHead (stopped (Ok tt) at bit)
 clean at bit e = let z : ◌≡◌ {A = ℕ} 0 1 = cc in omega arith
 
-by-frame : (w : refusal.Refusal) (at bit : ℕ) → NoHead (stopped (Refused (Frame w)) at bit)
+by-frame : (w : refusal.Refusal) (at bit : ℕ) → NoHead (stopped (Err (Frame w)) at bit)
 by-frame w at bit e = let z : ◌≡◌ {A = ℕ} 0 1 = cc in omega arith
 
 either : (b : Bool) (r s : Recorded) → NoHead r → NoHead s → NoHead (cond b r s)
@@ -116,7 +116,7 @@ pub record NoHeading (octets : List ℕ) (set : ℕ) : Type 0 where
   pub not-mu : Heads 1 octets → ⊥
 
 heading-read : (octets : List ℕ) (set : ℕ) (h : Headed) → headed octets ≡ h → is_set set ≡ true → (next : ℕ → File)
-    → ((law : ℕ) → NoHead (next law).read) → (by_heading h (nothing Head 0) next).read.end ≡ Refused Head → NoHeading octets set
+    → ((law : ℕ) → NoHead (next law).read) → (by_heading h (nothing Head 0) next).read.end ≡ Err Head → NoHeading octets set
 heading-read octets set no_heading q s next k e = let n = headed-none octets q in record { small = s; not_a = n.0; not-mu = n.1 }
 heading-read octets set (heading law) q s next k e = absurd (k law e)
 
@@ -125,12 +125,12 @@ after-long : (b : Bool) (law : ℕ) (r : Recorded) → NoHead r
 after-long true law r h = by-frame rules.Long 0 0
 after-long false law r h = h
 
-after-set : (X : Type 0) (b : Bool) (f : File) → (b ≡ true → f.read.end ≡ Refused Head → X)
-    → (cond (not b) (nothing (Frame rules.Set) 0) f).read.end ≡ Refused Head → X
+after-set : (X : Type 0) (b : Bool) (f : File) → (b ≡ true → f.read.end ≡ Err Head → X)
+    → (cond (not b) (nothing (Frame rules.Set) 0) f).read.end ≡ Err Head → X
 after-set X true f k e = k refl e
 after-set X false f k e = absurd (by-frame rules.Set 0 0 e)
 
-pub head-only : (octets : List ℕ) (set room places : ℕ) → (read_file octets set room places).read.end ≡ Refused Head → NoHeading octets set
+pub head-only : (octets : List ℕ) (set room places : ℕ) → (read_file octets set room places).read.end ≡ Err Head → NoHeading octets set
 unfolding read_file
 head-only octets set room places =
     after-set (NoHeading octets set) (is_set set) _ (λ s. heading-read octets set (headed octets) refl s _ (λ law.

@@ -13,7 +13,8 @@ use lib.Dec.{eqb}
 use borrow.Author.Tests.{eq-eqb, eqb-true, ne_eqb}
 use Rattle.rules.specs.declared.Refusal.{Refusal}
 use Rattle.rules.specs.declared.Refusal.TheVariants.{Prefix}
-use Rattle.rules.specs.declared.Ending.TheVariants.{Done, Refused}
+use Rattle.rules.specs.Refusals.{Ending}
+use Rattle.std.proofs.Common.{Ok, Err}
 use Rattle.rules.specs.Tools.{is_set, is_law}
 use Rattle.rules.specs.Bits.{bits_of}
 use Rattle.rules.specs.Reading.{whole, refuse}
@@ -49,13 +50,13 @@ never-lost octets law set at room {f} {j} l s h e = go (eqb (get_or octets at 0)
 
 -- Where a walk has come to its octets' end and the octet 01 follows, whatever stands behind it, it delivers the same frames and ends there
 -- with PREFIX
-done-only : {w : Refusal} → Refused w ≡ Done → ⊥
+done-only : {w : Refusal} → ◌≡◌ {A = Ending} (Err w) (Ok tt) → ⊥
 done-only e = let z : ◌≡◌ {A = ℕ} 0 1 = cc in omega arith
 
 lost-behind : (more : List ℕ) {octets : List ℕ} {law set at room : ℕ} {w : Walked} → is_law law ≡ true → is_set set ≡ true
-    → at ≤ length octets → WalkOf octets law set at room w → w.end ≡ Done
+    → at ≤ length octets → WalkOf octets law set at room w → w.end ≡ Ok tt
     → WalkOf (octets ++ (lost_octet ∷ more)) law set at room
-    (record { frames = w.frames; end = Refused Prefix; place = length octets; bit = 0 })
+    (record { frames = w.frames; end = Err Prefix; place = length octets; bit = 0 })
 lost-behind more {octets} {law} {set} {at} {room} l s h (ended k) e =
     let same : at ≡ length octets = omega arith in
     let rest : drop at (octets ++ (lost_octet ∷ more)) ≡ lost_octet ∷ more =
@@ -71,9 +72,9 @@ lost-behind more {octets} {law} {set} {at} {room} l s h (delivers {f = f} {j = j
     delivers {at = at} (omega (arith, length-append octets (lost_octet ∷ more))) same (lost-behind more l s u.1 t e)
 
 pub walk-lost : (octets more : List ℕ) (law set room : ℕ) → Walkable (octets ++ (lost_octet ∷ more)) law set
-    → (walk_all octets law set room).end ≡ Done
+    → (walk_all octets law set room).end ≡ Ok tt
     → walk_all (octets ++ (lost_octet ∷ more)) law set room
-    ≡ record { frames = (walk_all octets law set room).frames; end = Refused Prefix; place = length octets; bit = 0 }
+    ≡ record { frames = (walk_all octets law set room).frames; end = Err Prefix; place = length octets; bit = 0 }
 walk-lost octets more law set room t e =
     let short : Walkable octets law set = record
     { lawful = t.lawful; small = t.small; short = omega (arith, t.short, length-append octets (lost_octet ∷ more)) } in

@@ -18,7 +18,7 @@ use Rattle.rules.specs.Walk.{longest}
 use Rattle.promises.proofs.Nesting as nesting
 use Rattle.promises.proofs.Walks.{uses}
 use Rattle.recording.specs.declared.Refusal.TheVariants.{Head, Frame}
-use Rattle.recording.specs.declared.Ending.TheVariants.{Done, Refused}
+use Rattle.std.proofs.Common.{Ok, Err}
 use Rattle.recording.specs.Remembered.{Headed, heading, no_heading, headed, heading_length, lost_octet}
 use Rattle.recording.specs.Items.{Item, lost, Recorded, stopped, before, item_of, room_taken}
 use Rattle.recording.specs.Items.{items_from, File, nothing, by_heading, read_file}
@@ -38,7 +38,7 @@ pub record Extends (place : ℕ → ℕ) (w v : Recorded) : Type 0 where
 -- the reading by the smaller set, beside that by the larger
 pub data Nest (small : ℕ) (place : ℕ → ℕ) (w v : Recorded) : Type 0 where
   alike : w ≡ v → Nest small place w v
-  ends : (t : ℕ) → w.end ≡ Refused (Frame (rules.Tool t)) → holds small t ≡ false → Extends place w v → Nest small place w v
+  ends : (t : ℕ) → w.end ≡ Err (Frame (rules.Tool t)) → holds small t ≡ false → Extends place w v → Nest small place w v
 
 -- What both do at a place: both stop, both take one item, or the smaller lacks the tool
 module _ (octets : List ℕ) (law a b at room places : ℕ) where
@@ -52,7 +52,7 @@ module _ (octets : List ℕ) (law a b at room places : ℕ) where
   data Both : Type 0 where
     stop : (r : Recorded) → r.place ≡ at → Stops a r → Stops b r → Both
     one : (i : Item) (used taken : ℕ) → 1 ≤ used → Takes a i used taken → Takes b i used taken → Both
-    lacks : (t : ℕ) → holds a t ≡ false → Stops a (stopped (Refused (Frame (rules.Tool t))) at 0) → Both
+    lacks : (t : ℕ) → holds a t ≡ false → Stops a (stopped (Err (Frame (rules.Tool t))) at 0) → Both
 
   both : is_set a ≡ true → is_set b ≡ true → Within a b → Both
   unfolding items_from
@@ -69,13 +69,13 @@ module _ (octets : List ℕ) (law a b at room places : ℕ) where
           (λ fuel. rw (x, y, z, q) refl) (λ fuel. rw (x, y, z, q') refl)
       frame-read x y z (nesting.alike e) (refuse w bit) q =
           let q' = sym e ∙ q in
-          stop (stopped (Refused (Frame w)) at bit) refl (λ fuel. rw (x, y, z, q) refl) (λ fuel. rw (x, y, z, q') refl)
+          stop (stopped (Err (Frame w)) at bit) refl (λ fuel. rw (x, y, z, q) refl) (λ fuel. rw (x, y, z, q') refl)
 
       go : (x : Bool) → leb (length octets) at ≡ x → (y : Bool) → eqb places 0 ≡ y → (z : Bool) → eqb (get_or octets at 0) lost_octet ≡ z
           → Both
-      go true x y p z q = stop (stopped Done at 0) refl (λ fuel. rw x refl) (λ fuel. rw x refl)
+      go true x y p z q = stop (stopped (Ok tt) at 0) refl (λ fuel. rw x refl) (λ fuel. rw x refl)
       go false x true p z q =
-          stop (stopped (Refused (Frame rules.Room)) at 0) refl (λ fuel. rw (x, p) refl) (λ fuel. rw (x, p) refl)
+          stop (stopped (Err (Frame rules.Room)) at 0) refl (λ fuel. rw (x, p) refl) (λ fuel. rw (x, p) refl)
       go false x false p true q =
           let r : room - 0 ≡ room = omega arith in
           one (lost 0) 1 0 (omega arith) (λ fuel. rw (r, x, p, q) refl) (λ fuel. rw (r, x, p, q) refl)

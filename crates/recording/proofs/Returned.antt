@@ -24,7 +24,7 @@ use Rattle.rules.proofs.Room.{length_most}
 use Rattle.promises.proofs.Written.{frames-of}
 use Rattle.recording.specs.declared.Refusal.{Refusal}
 use Rattle.recording.specs.declared.Refusal.TheVariants.{Frame}
-use Rattle.recording.specs.declared.Ending.TheVariants.{Done}
+use Rattle.std.proofs.Common.{Ok}
 use Rattle.recording.specs.declared.FileRead.{FileRead}
 use Rattle.recording.specs.declared.FileWritten.{FileWritten}
 use Rattle.recording.specs.Remembered.{heading_of, heading_length, erased}
@@ -242,7 +242,7 @@ pub file-written-back : (samples cells : List ℕ) (law set room : ℕ) (octets 
       law = law;
       read = record {
         items = items_back (mask_of law) set (entries_of cells samples);
-        end = Done;
+        end = Ok tt;
         place = length octets - heading_length;
         bit = 0;
       };
@@ -263,7 +263,7 @@ file-written-back samples cells law set room octets b e reader room' places i w 
 
 -- and by the contracts of the two calls: the law, the items and the samples, from exactly the octets written
 pub record Restored (law : ℕ) (sound items : List ℕ) (w : FileWritten) (into into' cells cells' : List ℕ) (r : FileRead) : Type 0 where
-  pub end : r.end ≡ Done
+  pub end : r.end ≡ Ok tt
   pub lawful : r.law ≡ law
   pub many : r.items ≡ length items
   pub octets : heading_length + r.octets ≡ w.octets
@@ -276,12 +276,12 @@ pub record Restored (law : ℕ) (sound items : List ℕ) (w : FileWritten) (into
 data WellWritten (f : Filed) : Type 0 where
   well : (octets : List ℕ) → f ≡ filed octets → WellWritten f
 
-well-written : (f : Filed) → written_end f ≡ Done → WellWritten f
+well-written : (f : Filed) → written_end f ≡ Ok tt → WellWritten f
 well-written (filed octets) e = well octets refl
 well-written (declined w) e = let z : ◌≡◌ {A = ℕ} 0 1 = cc in absurd (omega arith)
 
 pub restored : (samples cells : List ℕ) (law set : ℕ) (out out' : List ℕ) (w : FileWritten) → Below 256 samples
-    → WriteFile samples cells law set out out' w → w.end ≡ Done
+    → WriteFile samples cells law set out out' w → w.end ≡ Ok tt
     → (reader : ℕ) (into into' told told' : List ℕ) (r : FileRead) → is_set reader ≡ true → Within set reader
     → room_for_all (mask_of law) (entries_of cells samples) ≤ length into → length cells ≤ length told
     → ReadFile (take w.octets out') reader into into' told told' r
@@ -317,7 +317,7 @@ restored samples cells law set out out' w b c e reader into into' told told' r i
 
 -- and where no frame given is an erasure frame, exactly the items and samples given
 pub returned : (samples cells : List ℕ) (law set : ℕ) (out out' : List ℕ) (w : FileWritten) → Below 256 samples
-    → WriteFile samples cells law set out out' w → w.end ≡ Done → NoneErased (mask_of law) (entries_of cells samples)
+    → WriteFile samples cells law set out out' w → w.end ≡ Ok tt → NoneErased (mask_of law) (entries_of cells samples)
     → (reader : ℕ) (into into' told told' : List ℕ) (r : FileRead) → is_set reader ≡ true → Within set reader
     → room_for_all (mask_of law) (entries_of cells samples) ≤ length into → length cells ≤ length told
     → ReadFile (take w.octets out') reader into into' told told' r → Restored law samples cells w into into' told told' r

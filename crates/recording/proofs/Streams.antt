@@ -11,8 +11,8 @@ use lib.Dec.{eqb, leb}
 use borrow.Author.Tests.{ne_eqb, leb-false}
 use Rattle.rules.specs.declared.Refusal.{Refusal}
 use Rattle.rules.specs.declared.Refusal.TheVariants as rule_room
-use Rattle.rules.specs.declared.Ending as ending
-use Rattle.rules.specs.declared.Ending.TheVariants as rules
+use Rattle.rules.specs.Refusals as ending
+use Rattle.std.proofs.Common.{Ok, Err}
 use Rattle.rules.specs.Tools.{is_set, is_law}
 use Rattle.rules.specs.Samples.{mask_of}
 use Rattle.rules.specs.Reading.{Read, whole, refuse}
@@ -21,16 +21,15 @@ use Rattle.rules.specs.Walk as walk
 use Rattle.rules.proofs.Room.{read-most, read-room}
 use Rattle.promises.proofs.Walks.{uses}
 use Rattle.recording.specs.declared.Refusal.TheVariants.{Frame}
-use Rattle.recording.specs.declared.Ending.{Ending}
-use Rattle.recording.specs.declared.Ending.TheVariants.{Done, Refused}
+use Rattle.recording.specs.Endings.{Ending}
 use Rattle.recording.specs.Remembered.{lost_octet, erased}
 use Rattle.recording.specs.Items.{lost, Recorded, stopped, before, item_of, room_taken, after_read, items_from}
 use Rattle.recording.proofs.Marks.{never-lost}
 
 -- a walk's end, frames and place as a file's
 abbrev pub end_of : ending.Ending → Ending
-end_of rules.Done = Done
-end_of (rules.Refused w) = Refused (Frame w)
+end_of (Ok _) = Ok tt
+end_of (Err w) = Err (Frame w)
 
 abbrev pub recorded_of : ℕ → walk.Walked → Recorded
 recorded_of mask w = record { items = map (λ d. item_of mask d.found) w.frames; end = end_of w.end; place = w.place; bit = w.bit }
@@ -53,7 +52,7 @@ item_next fuel octets law set at room places f =
     before (item_of (mask_of law) f) (items_from fuel octets law set (at + octets_used f) (room - room_taken (mask_of law) f) (places - 1))
 
 abbrev walk_stop : ℕ → Refusal → ℕ → walk.Walked
-walk_stop at w bit = walk.stopped (rules.Refused w) at bit
+walk_stop at w bit = walk.stopped (Err w) at bit
 
 taken-most : (mask : ℕ) (s : List ℕ) (b : Bool) → length s ≤ 320 → cond b 0 (length s) ≤ 320
 taken-most mask s true h = omega arith
@@ -89,12 +88,12 @@ items-of-walk (suc fuel) octets law set at room room' places l s r r' p n =
         (ap (before (item_of (mask_of law) f)) (later f u.0 (omega arith) (omega arith) (omega arith) n))
     one (refuse w bit) e e' h n later = rw (ne_eqb (get_or octets at 0) lost_octet n) refl
 
-    start : (b : Bool) → leb (length octets) at ≡ b → (get_or octets (cond b (walk.stopped rules.Done at 0)
+    start : (b : Bool) → leb (length octets) at ≡ b → (get_or octets (cond b (walk.stopped (Ok tt) at 0)
         (walk.onward (read_one (drop at octets) law set room) (walk_next fuel octets law set at room) (walk_stop at))).place 0
-        ≡ lost_octet → ⊥) → Later → cond b (stopped Done at 0) (cond (eqb places 0) (stopped (Refused (Frame rule_room.Room)) at 0)
+        ≡ lost_octet → ⊥) → Later → cond b (stopped (Ok tt) at 0) (cond (eqb places 0) (stopped (Err (Frame rule_room.Room)) at 0)
         (cond (eqb (get_or octets at 0) lost_octet) (after_lost fuel octets law set at room' places)
         (after_read (read_one (drop at octets) law set room') at (item_next fuel octets law set at room' places))))
-        ≡ recorded_of (mask_of law) (cond b (walk.stopped rules.Done at 0)
+        ≡ recorded_of (mask_of law) (cond b (walk.stopped (Ok tt) at 0)
         (walk.onward (read_one (drop at octets) law set room) (walk_next fuel octets law set at room) (walk_stop at)))
     start true e n later = refl
     start false e n later =

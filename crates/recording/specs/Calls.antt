@@ -1,11 +1,12 @@
 -- The contract of each public call: its answer and the lent outputs, for all inputs.
 use Rattle.std.specs.Prelude.{ℕ, ◌≡◌, List, [], map, length}
 use Rattle.rules.specs.Refusals as rules
+use Rattle.rules.specs.Refusals.{numbered}
 use Rattle.rules.specs.Calls.{at_start}
 use Rattle.recording.specs.declared.Refusal.{Refusal}
 use Rattle.recording.specs.declared.Refusal.TheVariants.{Head, Frame}
-use Rattle.recording.specs.declared.Ending.{Ending}
-use Rattle.recording.specs.declared.Ending.TheVariants.{Done, Refused}
+use Rattle.recording.specs.Endings.{Ending}
+use Rattle.std.specs.Prelude.{Ok, Err}
 use Rattle.recording.specs.declared.FileRead.{FileRead}
 use Rattle.recording.specs.declared.FileWritten.{FileWritten}
 use Rattle.recording.specs.Items.{File, read_file, sound_in, cell_of}
@@ -16,17 +17,21 @@ abbrev pub refusal_number : Refusal → ℕ
 refusal_number Head = 14
 refusal_number (Frame w) = rules.refusal_number w
 
+-- no refusal has the number 0
+pub head-not-zero : (w : Refusal) → refusal_number w ≡ 0 → ⊥
+head-not-zero Head e = cc
+head-not-zero (Frame w) e = rules.refusal-not-zero w e
+
 abbrev pub refusal_tool : Refusal → ℕ
 refusal_tool Head = 0
 refusal_tool (Frame w) = rules.refusal_tool w
 
 abbrev pub number_of : Ending → ℕ
-number_of Done = 0
-number_of (Refused w) = refusal_number w
+number_of = numbered refusal_number
 
 abbrev pub tool_named : Ending → ℕ
-tool_named Done = 0
-tool_named (Refused w) = refusal_tool w
+tool_named (Ok _) = 0
+tool_named (Err w) = refusal_tool w
 
 -- what reading a file reports; the frames' samples stand at the output's start, the items at that of theirs
 pub record Reads (f : File) (r : FileRead) (out out' cells cells' : List ℕ) : Type 0 where
@@ -44,8 +49,8 @@ ReadFile octets set out out' cells cells' r = Reads (read_file octets set (lengt
 
 -- what writing a file reports; nothing is written by a refused call
 abbrev pub written_end : Filed → Ending
-written_end (filed octets) = Done
-written_end (declined w) = Refused w
+written_end (filed octets) = Ok tt
+written_end (declined w) = Err w
 
 abbrev pub written_octets : Filed → List ℕ
 written_octets (filed octets) = octets

@@ -10,8 +10,8 @@ use Rattle.rules.specs.Frame.{Found, octets_used, read_one}
 use Rattle.rules.specs.Walk.{longest}
 use Rattle.recording.specs.declared.Refusal.{Refusal}
 use Rattle.recording.specs.declared.Refusal.TheVariants.{Head, Frame}
-use Rattle.recording.specs.declared.Ending.{Ending}
-use Rattle.recording.specs.declared.Ending.TheVariants.{Done, Refused}
+use Rattle.recording.specs.Endings.{Ending}
+use Rattle.std.specs.Prelude.{Ok, Err}
 use Rattle.recording.specs.Remembered.{Headed, heading, no_heading, headed, heading_length, lost_octet, erased}
 
 -- a frame, or a loss with its length, 0 where it is not known
@@ -41,15 +41,15 @@ room_taken mask f = cond (erased mask f.samples) 0 (length f.samples)
 
 abbrev pub after_read : Read Found → ℕ → (Found → Recorded) → Recorded
 after_read (whole f i) at next = next f
-after_read (refuse w bit) at next = stopped (Refused (Frame w)) at bit
+after_read (refuse w bit) at next = stopped (Err (Frame w)) at bit
 
 -- Item after item from place `at` on, as in `walk_from`: room for so many samples, and for so many items, "judged before that item is
 -- looked at".
 unfoldable pub items_from : ℕ → List ℕ → ℕ → ℕ → ℕ → ℕ → ℕ → Recorded
-items_from zero octets law set at room places = stopped Done at 0
+items_from zero octets law set at room places = stopped (Ok tt) at 0
 items_from (suc more) octets law set at room places =
-    cond (leb (length octets) at) (stopped Done at 0)
-    (cond (eqb places 0) (stopped (Refused (Frame rules.Room)) at 0)
+    cond (leb (length octets) at) (stopped (Ok tt) at 0)
+    (cond (eqb places 0) (stopped (Err (Frame rules.Room)) at 0)
     (cond (eqb (get_or octets at 0) lost_octet)
     (before (lost 0) (items_from more octets law set (at + 1) room (places - 1)))
     (after_read (read_one (drop at octets) law set room) at
@@ -62,7 +62,7 @@ pub record File : Type 0 where
   pub read : Recorded
 
 abbrev pub nothing : Refusal → ℕ → File
-nothing why law = record { law = law; read = stopped (Refused why) 0 0 }
+nothing why law = record { law = law; read = stopped (Err why) 0 0 }
 
 abbrev pub by_heading : Headed → File → (ℕ → File) → File
 by_heading no_heading none next = none

@@ -3,7 +3,10 @@
 #![tactic(auto)]
 
 ghost use Rattle.std.specs.Prelude.{◌≡◌};
-ghost use Rattle.recording.specs.Calls.{refusal_number, refusal_tool, number_of, tool_named};
+ghost use Rattle.recording.specs.declared.Refusal.TheVariants.{Frame};
+ghost use Rattle.recording.specs.Calls.{refusal_number, head-not-zero, tool_named};
+
+use rules::Numbered;
 
 pub mod marking;
 
@@ -14,54 +17,45 @@ pub enum Refusal {
     Frame(rules::Refusal),
 }
 
-// The paper's number of a refusal: HEAD is 14.
-fn refusal_number(why: Refusal) -> u32
-    ensures { result ≡ refusal_number why }
-{
-    match why {
-        Refusal::Head => 14,
-        Refusal::Frame(of) => rules::refusal_number(of),
+impl From<rules::Refusal> for Refusal {
+    ghost from_gives = { λ of why. why ≡ Frame of };
+
+    fn from(of: rules::Refusal) -> Refusal {
+        Refusal::Frame(of)
     }
 }
 
-fn refusal_tool(why: Refusal) -> u32
-    ensures { result ≡ refusal_tool why }
-{
-    match why {
-        Refusal::Head => 0,
-        Refusal::Frame(of) => rules::refusal_tool(of),
+// The paper's number of a refusal: HEAD is 14.
+impl Numbered for Refusal {
+    ghost number = { refusal_number };
+
+    ghost never_zero = { head-not-zero };
+
+    fn number(self) -> u32 {
+        match self {
+            Refusal::Head => 14,
+            Refusal::Frame(of) => of.number(),
+        }
     }
 }
 
 // How a call ended.
-#[derive(Clone, Copy)]
-pub enum Ending {
-    Done,
-    Refused(Refusal),
-}
-
-// An accepted call has the number 0.
-pub fn number_of(end: Ending) -> u32
-    ensures { result ≡ number_of end }
-{
-    match end {
-        Ending::Done => 0,
-        Ending::Refused(why) => refusal_number(why),
-    }
-}
+pub type Ending = Result<(), Refusal>;
 
 // "its tool is given for TOOL and is 0 otherwise"
+// Apart from that of `rules`: HEAD has no tool, and it is one match.
 pub fn tool_of(end: Ending) -> u32
     ensures { result ≡ tool_named end }
 {
     match end {
-        Ending::Done => 0,
-        Ending::Refused(why) => refusal_tool(why),
+        Err(Refusal::Frame(of)) => of.tool(),
+        _ => 0,
     }
 }
 
 // Reading a file: its law, its items, the octets after the heading up to its end or the refused item, the samples of its frames, and the
 // refusal's bit.
+// No Result: `Reads` states each field of a refused call too.
 #[derive(Drop)]
 pub struct FileRead {
     pub end: Ending,
@@ -73,6 +67,7 @@ pub struct FileRead {
 }
 
 // Writing a file.
+// No Result: `Writes` states the octets of a refused call too.
 #[derive(Drop)]
 pub struct FileWritten {
     pub end: Ending,

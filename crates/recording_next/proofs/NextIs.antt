@@ -10,7 +10,7 @@ use lib.ListN.{length, get_or, drop, length-drop}
 use lib.Dec.{eqb, leb}
 use borrow.Author.Tests.{leb-true, leb-false, le-leb}
 use Rattle.rules.specs.declared.Refusal.TheVariants as rule
-use Rattle.rules.specs.declared.Ending.TheVariants as rules
+use Rattle.std.proofs.Common.{Ok}
 use Rattle.rules.specs.Refusals.{verdict}
 use Rattle.rules.specs.Samples.{mask_of}
 use Rattle.rules.specs.Tools.{all_tools}
@@ -19,7 +19,6 @@ use Rattle.rules.specs.Frame.{Found}
 use Rattle.rules.specs.Walk.{longest, walk_asks}
 use Rattle.rules.proofs.Room.{read-room}
 use Rattle.recording.specs.declared.Refusal.TheVariants.{Frame}
-use Rattle.recording.specs.declared.Ending.TheVariants.{Done}
 use Rattle.recording.specs.Remembered.{heading, headed, heading_length, lost_octet}
 use Rattle.recording.specs.Items.{Item, lost, Recorded, stopped, before, items_from, read_file, sound_of}
 use Rattle.recording_read.specs.Turns.{Step, takes, stops, item_step}
@@ -29,7 +28,7 @@ use Rattle.recording_next.specs.Next.{Piece, found, refused, piece_of, item_here
 use Rattle.recording_next.specs.Followed.{by_piece, followed, played}
 use Rattle.recording_next.proofs.Pieces.{next-short, next_here, piece-step, Least, least-here}
 
-module _ (octets : List ℕ) (law set : ℕ) (ok : verdict (walk_asks law set (length octets)) ≡ rules.Done) where
+module _ (octets : List ℕ) (law set : ℕ) (ok : verdict (walk_asks law set (length octets)) ≡ Ok tt) where
   -- "item by item it is g7110_file_read's list"
   pub items : (n at room places : ℕ) → n ≤ places → followed n octets law set at room ≡ items_from n octets law set at room places
   unfolding followed items_from
@@ -44,7 +43,7 @@ module _ (octets : List ℕ) (law set : ℕ) (ok : verdict (walk_asks law set (l
       both (takes i used) later = ap (before i) (later (at + used) (room - length (sound_of i)))
       both (stops w bit) later = refl
 
-      go : (b : Bool) → leb (length octets) at ≡ b → Later → cond b (stopped Done at 0) (by_piece (next_of octets at law set room) at
+      go : (b : Bool) → leb (length octets) at ≡ b → Later → cond b (stopped (Ok tt) at 0) (by_piece (next_of octets at law set room) at
           (λ i used. before i (followed n octets law set (at + used) (room - length (sound_of i)))))
           ≡ items_from (suc n) octets law set at room places
       go true e later = sym (items-ended octets law set (suc n) at room places (leb-true (length octets) at e))
@@ -100,9 +99,9 @@ module _ (octets : List ℕ) (law set : ℕ) (ok : verdict (walk_asks law set (l
           ap (before i) (later (at + used) (more - length (sound_of i)) (omega (arith, few-sound at more e)))
       rest (refused w bit) e later = refl
 
-      go : (b : Bool) → Later → cond b (stopped Done at 0) (by_piece (next_of octets at law set room) at
+      go : (b : Bool) → Later → cond b (stopped (Ok tt) at 0) (by_piece (next_of octets at law set room) at
           (λ i used. before i (played n octets law set (at + used) room)))
-          ≡ cond b (stopped Done at 0) (by_piece (next_of octets at law set more) at
+          ≡ cond b (stopped (Ok tt) at 0) (by_piece (next_of octets at law set more) at
           (λ i used. before i (followed n octets law set (at + used) (more - length (sound_of i)))))
       go true later = refl
       go false later = rw here (rest (next_of octets at law set more) refl later)
@@ -114,7 +113,7 @@ pub whole-file : (file : List ℕ) (law set room places : ℕ) → set ≤ all_t
     ≡ record { law = law; read = followed (suc (length file - heading_length)) (drop heading_length file) law set 0 room }
 whole-file file law set room places s e h p =
     let d : length (drop heading_length file) ≡ length file - heading_length = length-drop heading_length file in
-    let ok : verdict (walk_asks law set (length (drop heading_length file))) ≡ rules.Done
+    let ok : verdict (walk_asks law set (length (drop heading_length file))) ≡ Ok tt
     = rw (d, headed-law file e, le-leb set all_tools s, le-leb (length file - heading_length) longest h) refl in
     file-whole file set room places s law e h
     ∙ ap (λ (r : Recorded). record { law = law; read = r })

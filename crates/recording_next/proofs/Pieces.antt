@@ -11,7 +11,7 @@ use lib.Dec.{eqb, leb, lit<}
 use borrow.Author.Tests.{le-ltb, lt-ltb, le-leb, lt-leb, eqb-true}
 use Rattle.rules.specs.declared.Refusal as rule
 use Rattle.rules.specs.declared.Refusal.TheVariants as rules
-use Rattle.rules.specs.declared.Ending.TheVariants as ending
+use Rattle.std.proofs.Common.{Ok, Err}
 use Rattle.rules.specs.Refusals.{verdict}
 use Rattle.rules.specs.Samples.{mask_of}
 use Rattle.rules.specs.Reading.{Read, whole, refuse}
@@ -25,8 +25,8 @@ use Rattle.read_head.specs.Heads.{head_of, head_tool}
 use Rattle.read_head.proofs.Heads.{head-found, head-refused}
 use Rattle.recording.specs.declared.Refusal.{Refusal}
 use Rattle.recording.specs.declared.Refusal.TheVariants.{Frame}
-use Rattle.recording.specs.declared.Ending.TheVariants.{Done, Refused}
 use Rattle.recording.specs.Remembered.{Headed, lost_octet, erased}
+use Rattle.recording.specs.Endings.{Ending}
 use Rattle.recording.specs.Items.{Item, lost, sound, Recorded, stopped, before, items_from, sound_of, sound_in, loss_from, cell_of}
 use Rattle.recording.proofs.Marks.{lost-refused}
 use Rattle.recording_read.specs.declared.Played.{Played}
@@ -40,12 +40,12 @@ use Rattle.recording_next.specs.Next.{Tells, HeadTold}
 use Rattle.recording_next.specs.Followed.{by_piece}
 
 module _ (octets : List ℕ) (at law set room : ℕ) where
-  pub next-refused : {why : rule.Refusal} → verdict (walk_asks law set (length octets)) ≡ ending.Refused why
+  pub next-refused : {why : rule.Refusal} → verdict (walk_asks law set (length octets)) ≡ Err why
       → refused (Frame why) 0 ≡ next_of octets at law set room
   unfolding next_of
   next-refused e = sym (verdict-refused (λ why. refused (Frame why) 0) _ (walk_asks law set (length octets)) e)
 
-  module _ (ok : verdict (walk_asks law set (length octets)) ≡ ending.Done) where
+  module _ (ok : verdict (walk_asks law set (length octets)) ≡ Ok tt) where
     pub next-short : length octets ≤ at → refused (Frame rules.Short) 0 ≡ next_of octets at law set room
     unfolding next_of
     next-short h =
@@ -61,7 +61,7 @@ tells_as {at = at} {r = r} {out = out} {out' = out'} e t = subst (λ (p : Piece)
 
 -- what a reading of one item gives, by what stands there
 abbrev pub recorded_of : Piece → ℕ → Recorded
-recorded_of p at = by_piece p at (λ i used. before i (stopped Done (at + used) 0))
+recorded_of p at = by_piece p at (λ i used. before i (stopped (Ok tt) (at + used) 0))
 
 -- what a piece leads to is what an item's step leads to
 pub piece-step : (octets : List ℕ) (law set at room : ℕ) (next : Item → ℕ → Recorded)
@@ -79,13 +79,13 @@ pub one-item : (octets : List ℕ) (law set at room : ℕ) → at < length octet
 one-item octets law set at room h =
     items-step octets law set 1 0 at room 1 refl h (omega arith) ∙ last (item_step octets law set at room) ∙ sym (piece-step octets law set at room _)
   where
-    last : (s : Step) → by_step s at (rest_from octets law set 0 at room 1) ≡ by_step s at (λ i used. before i (stopped Done (at + used) 0))
+    last : (s : Step) → by_step s at (rest_from octets law set 0 at room 1) ≡ by_step s at (λ i used. before i (stopped (Ok tt) (at + used) 0))
     last (takes i used) = ap (before i) (items-last octets law set 0 (at + used) (room - length (sound_of i)) (1 - 1) refl)
     last (stops w bit) = refl
 
 -- how a reading of one item ended is how the piece did, and its place is not before the item's
 module _ (at : ℕ) {r : Played} {out out' cells cells' : List ℕ} where
-  pub ended-as : (p : Piece) → Plays (recorded_of p at) r out out' cells cells' → r.end ≡ Done → piece_end p ≡ Done
+  pub ended-as : (p : Piece) → Plays (recorded_of p at) r out out' cells cells' → r.end ≡ Ok tt → piece_end p ≡ Ok tt
   ended-as (found i used t) s e = refl
   ended-as (refused w bit) s e = sym s.end ∙ e
 
@@ -95,7 +95,7 @@ module _ (at : ℕ) {r : Played} {out out' cells cells' : List ℕ} where
 
 -- a refused item
 pub piece-refused : (p : Piece) {at : ℕ} {r : Played} {out out' cells cells' : List ℕ} → Plays (recorded_of p at) r out out' cells cells'
-    → {why : Refusal} → r.end ≡ Refused why → {n : Told} → Tells (refused why r.bit) at n out out → Tells p at n out out'
+    → {why : Refusal} → r.end ≡ Err why → {n : Told} → Tells (refused why r.bit) at n out out → Tells p at n out out'
 unfolding sound_in
 piece-refused (refused w bit) {at} {out = out} t {why} e {n} q =
     let same : why ≡ w = ended (sym e ∙ t.end) in
@@ -111,7 +111,7 @@ piece-refused (refused w bit) {at} {out = out} t {why} e {n} q =
       lent = t.lent;
     }
   where
-    ended : Refused why ≡ Refused w → why ≡ w
+    ended : ◌≡◌ {A = Ending} (Err why) (Err w) → why ≡ w
     ended e = cc
 piece-refused (found i used tool) t e q = let d = t.end in let z : ◌≡◌ {A = ℕ} 0 1 = cc in absurd (omega arith)
 
@@ -165,11 +165,11 @@ samples-told (lost n) h = rw (le-leb loss_from (loss_from + n) (omega arith)) (o
 
 -- an item that was read
 pub piece-found : (p : Piece) → Few p → {at : ℕ} {r : Played} {out out' cells cells' : List ℕ}
-    → Plays (recorded_of p at) r out out' cells cells' → r.end ≡ Done → {kind samples tool : ℕ}
+    → Plays (recorded_of p at) r out out' cells cells' → r.end ≡ Ok tt → {kind samples tool : ℕ}
     → kind ≡ cond (leb loss_from (get_or cells' 0 0)) 1 0 → samples ≡ cond (leb loss_from (get_or cells' 0 0))
     (get_or cells' 0 0 - loss_from) (get_or cells' 0 0)
     → tool ≡ piece_tool p
-    → Tells p at (record { end = Done; kind = kind; samples = samples; octets = r.place - at; tool = tool; bit = 0; place = r.place }) out out'
+    → Tells p at (record { end = Ok tt; kind = kind; samples = samples; octets = r.place - at; tool = tool; bit = 0; place = r.place }) out out'
 unfolding sound_in
 piece-found (found i used t) h {at} {out = out} {cells = cells} s e k n u =
     let cell = ap (λ (l : List ℕ). get_or l 0 0) s.told in
@@ -186,20 +186,20 @@ piece-found (found i used t) h {at} {out = out} {cells = cells} s e k n u =
 piece-found (refused w bit) h s e k n u = let d = s.end in let z : ◌≡◌ {A = ℕ} 0 1 = cc in absurd (omega arith)
 
 -- the tool of a frame is the one that its first octets tell; 01 has none
-pub tool-here : (octets : List ℕ) (law set at room : ℕ) → verdict (walk_asks law set (length octets)) ≡ ending.Done → at < length octets
-    → piece_end (item_here octets law set at room) ≡ Done → head_tool (head_of (drop at octets) set) ≡ piece_tool (item_here octets law set at room)
+pub tool-here : (octets : List ℕ) (law set at room : ℕ) → verdict (walk_asks law set (length octets)) ≡ Ok tt → at < length octets
+    → piece_end (item_here octets law set at room) ≡ Ok tt → head_tool (head_of (drop at octets) set) ≡ piece_tool (item_here octets law set at room)
 tool-here octets law set at room ok h e = go (eqb (get_or octets at 0) lost_octet) refl e
   where
     met : AllMet (walk_asks law set (length octets))
     met = all-met (walk_asks law set (length octets)) ok
 
-    one : (m : Read Found) → read_one (drop at octets) law set room ≡ m → piece_end (piece_of (mask_of law) m) ≡ Done
+    one : (m : Read Found) → read_one (drop at octets) law set room ≡ m → piece_end (piece_of (mask_of law) m) ≡ Ok tt
         → head_tool (head_of (drop at octets) set) ≡ piece_tool (piece_of (mask_of law) m)
     one (whole f j) q d = ap head_tool (head-found (drop at octets) law set room met.0 q).is
     one (refuse w bit) q d = let z : ◌≡◌ {A = ℕ} 0 1 = cc in absurd (omega arith)
 
     go : (b : Bool) → eqb (get_or octets at 0) lost_octet ≡ b
-        → piece_end (cond b (found (lost 0) 1 0) (piece_of (mask_of law) (read_one (drop at octets) law set room))) ≡ Done
+        → piece_end (cond b (found (lost 0) 1 0) (piece_of (mask_of law) (read_one (drop at octets) law set room))) ≡ Ok tt
         → head_tool (head_of (drop at octets) set)
         ≡ piece_tool (cond b (found (lost 0) 1 0) (piece_of (mask_of law) (read_one (drop at octets) law set room)))
     go true q d =

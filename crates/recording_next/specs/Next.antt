@@ -11,8 +11,8 @@ use Rattle.rules.specs.Walk.{walk_asks}
 use Rattle.rules.specs.Calls.{at_start}
 use Rattle.recording.specs.declared.Refusal.{Refusal}
 use Rattle.recording.specs.declared.Refusal.TheVariants.{Head, Frame}
-use Rattle.recording.specs.declared.Ending.{Ending}
-use Rattle.recording.specs.declared.Ending.TheVariants.{Done, Refused}
+use Rattle.recording.specs.Endings.{Ending}
+use Rattle.std.specs.Prelude.{Ok, Err}
 use Rattle.recording.specs.Remembered.{Headed, heading, no_heading, heading_length, lost_octet}
 use Rattle.recording.specs.Items.{Item, sound, lost, item_of, sound_of}
 use Rattle.recording.specs.Calls.{refusal_tool}
@@ -43,8 +43,8 @@ next_of octets at law set room =
 
 -- what is reported of a piece
 abbrev pub piece_end : Piece → Ending
-piece_end (found i used t) = Done
-piece_end (refused w bit) = Refused w
+piece_end (found i used t) = Ok tt
+piece_end (refused w bit) = Err w
 
 abbrev pub kind_of : Item → ℕ
 kind_of (sound f) = 0
@@ -103,8 +103,8 @@ FileNext octets at law set out out' r = Tells (next_of octets at law set (length
 
 -- what the heading tells: "law, 10", or HEAD
 abbrev pub head_end : Headed → Ending
-head_end (heading law) = Done
-head_end no_heading = Refused Head
+head_end (heading law) = Ok tt
+head_end no_heading = Err Head
 
 abbrev pub head_law : Headed → ℕ
 head_law (heading law) = law

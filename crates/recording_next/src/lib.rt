@@ -3,7 +3,6 @@
 #![tactic(auto)]
 
 ghost use Rattle.std.specs.Prelude.{◌≡◌, List, cond, ℕ, ◌-◌, ◌<◌, ◌≤◌, leb, length, drop};
-ghost use Rattle.rules.specs.declared.Ending.TheVariants.{Done};
 ghost use Rattle.rules.specs.Refusals.{verdict};
 ghost use Rattle.rules.specs.Walk.{walk_asks};
 ghost use Rattle.read_head.specs.Heads.{head_of, head_tool};
@@ -14,9 +13,9 @@ ghost use Rattle.recording_next.specs.Next.{refused, Tells, ItemAt, FileNext, He
 
 use recording::marking::{HEADING, LOSS_FROM};
 use recording::{Ending, Refusal};
-use recording_read::Heading;
 
 // The law of a file, and the octets of its heading.
+// No Result: `HeadTold` states the law and the octets of a refused call too.
 #[derive(Drop)]
 pub struct FileHead {
     pub end: Ending,
@@ -24,7 +23,9 @@ pub struct FileHead {
     pub octets: usize,
 }
 
-// One item: its kind (0 a frame, 1 a loss), samples, octets and tool, a refusal's bit, and the next place.
+// One item: its kind (0 a frame, 1 a loss), samples, octets and tool, a refusal's bit, and the next place. The kind is a number because
+// callers in C are told it so.
+// No Result: `Tells` states each field of a refused call too.
 #[derive(Clone, Copy)]
 pub struct Told {
     pub end: Ending,
@@ -41,13 +42,13 @@ pub fn file_head(octets: &[u8]) -> FileHead
     ensures { HeadTold (headed octets.now) result }
 {
     match recording_read::law_in(octets) {
-        Heading::Missing => FileHead {
-            end: Ending::Refused(Refusal::Head),
+        None => FileHead {
+            end: Err(Refusal::Head),
             law: 0,
             octets: 0,
         },
-        Heading::Law(law) => FileHead {
-            end: Ending::Done,
+        Some(law) => FileHead {
+            end: Ok(()),
             law,
             octets: HEADING,
         },
@@ -58,10 +59,7 @@ pub fn file_head(octets: &[u8]) -> FileHead
 fn kind_of(cell: u16) -> usize
     ensures { result ≡ cond (leb loss_from cell) 1 0 }
 {
-    if LOSS_FROM <= cell {
-        return 1;
-    }
-    0
+    if LOSS_FROM <= cell { 1 } else { 0 }
 }
 
 // Its samples; of a loss its length.
@@ -69,9 +67,10 @@ fn samples_of(cell: u16) -> usize
     ensures { result ≡ cond (leb loss_from cell) (cell - loss_from) cell }
 {
     if LOSS_FROM <= cell {
-        return (cell - LOSS_FROM) as usize;
+        usize::from(cell - LOSS_FROM)
+    } else {
+        usize::from(cell)
     }
-    cell as usize
 }
 
 // The tool of the frame at a place, by its first octets; 01 has none.
@@ -79,22 +78,20 @@ fn tool_at(octets: &[u8], set: u32, at: usize) -> u32
     requires { at ≤ length octets.now }
     ensures { result ≡ head_tool (head_of (drop at octets.now) set) }
 {
-    let h = read_head::head(&octets[at..], set);
-    h.tool
+    read_head::head(&octets[at..], set).tool
 }
 
 // "A refused one reports 0, 0, 0, tool, bit, at."
 fn unread(why: Refusal, bit: usize, at: usize) -> Told
     ensures { (out : List ℕ) → Tells (refused why bit) at result out out }
 {
-    let end = Ending::Refused(why);
-    let tool = recording::tool_of(end);
+    let end = Err(why);
     Told {
         end,
         kind: 0,
         samples: 0,
         octets: 0,
-        tool,
+        tool: recording::tool_of(end),
         bit,
         place: at,
     }
@@ -102,18 +99,17 @@ fn unread(why: Refusal, bit: usize, at: usize) -> Told
 
 // The item at a place: one item of the file's reading.
 fn item_at(octets: &[u8], law: u32, set: u32, at: usize, out: &mut [u8]) -> Told
-    requires { (verdict (walk_asks law set (length octets.now)) ≡ Done) × (at < length octets.now) }
+    requires { (verdict (walk_asks law set (length octets.now)) ≡ Ok tt) × (at < length octets.now) }
     ensures { ItemAt octets.now law set at out.old out.new result }
 {
     let mut cells = [0u16; 1];
     let r = recording_read::play_on(octets, law, set, at, 1, out, &mut cells);
-    let e = r.end;
-    match e {
-        Ending::Refused(why) => unread(why, r.bit, at),
-        Ending::Done => {
+    match r.end {
+        Err(why) => unread(why, r.bit, at),
+        Ok(()) => {
             let cell = cells[0];
             Told {
-                end: Ending::Done,
+                end: Ok(()),
                 kind: kind_of(cell),
                 samples: samples_of(cell),
                 octets: r.place - at,
@@ -131,8 +127,8 @@ pub fn next(octets: &[u8], at: u64, law: u32, set: u32, out: &mut [u8]) -> Told
 {
     let place = at as usize;
     match rules::guard_stream(law, set, octets.len()) {
-        rules::Ending::Refused(why) => unread(Refusal::Frame(why), 0, place),
-        rules::Ending::Done => {
+        Err(why) => unread(Refusal::Frame(why), 0, place),
+        Ok(()) => {
             if octets.len() <= place {
                 return unread(Refusal::Frame(rules::Refusal::Short), 0, place);
             }

@@ -18,8 +18,8 @@ use Rattle.rules.specs.Frame.{Found}
 use Rattle.rules.proofs.Room.{read-room}
 use Rattle.recording.specs.declared.Refusal.{Refusal}
 use Rattle.recording.specs.declared.Refusal.TheVariants.{Frame}
-use Rattle.recording.specs.declared.Ending.{Ending}
-use Rattle.recording.specs.declared.Ending.TheVariants.{Done, Refused}
+use Rattle.recording.specs.Endings.{Ending}
+use Rattle.std.proofs.Common.{Ok, Err}
 use Rattle.recording.specs.Remembered.{lost_octet}
 use Rattle.recording.specs.Items.{Item, lost, Recorded, stopped, before, items_from, sound_of, sound_in}
 use Rattle.recording_read.specs.Turns.{Step, takes, stops, frame_step, item_step}
@@ -29,17 +29,17 @@ use Rattle.recording_read.proofs.Steps.{items-one}
 
 -- by how a reading ended: `more` after a clean end, `kept` after a refusal
 abbrev pub by_end : Ending → Recorded → Recorded → Recorded
-by_end Done more kept = more
-by_end (Refused r) more kept = kept
+by_end (Ok _) more kept = more
+by_end (Err r) more kept = kept
 
 module _ (octets : List ℕ) (law set : ℕ) where
   -- a reading of at most so many items, from a place on, with so much room and so many places
   pub data Reads : ℕ → ℕ → ℕ → ℕ → Recorded → Type 0 where
-    last : {at room places : ℕ} → Reads 0 at room places (stopped Done at 0)
-    ended : {n at room places : ℕ} → length octets ≤ at → Reads n at room places (stopped Done at 0)
-    full : {n at room : ℕ} → at < length octets → Reads (suc n) at room 0 (stopped (Refused (Frame rules.Room)) at 0)
+    last : {at room places : ℕ} → Reads 0 at room places (stopped (Ok tt) at 0)
+    ended : {n at room places : ℕ} → length octets ≤ at → Reads n at room places (stopped (Ok tt) at 0)
+    full : {n at room : ℕ} → at < length octets → Reads (suc n) at room 0 (stopped (Err (Frame rules.Room)) at 0)
     refused : {n at room places : ℕ} {w : rule.Refusal} {bit : ℕ} → at < length octets → item_step octets law set at room ≡ stops w bit
-        → Reads (suc n) at room (suc places) (stopped (Refused (Frame w)) at bit)
+        → Reads (suc n) at room (suc places) (stopped (Err (Frame w)) at bit)
     delivers : {n at room places : ℕ} {i : Item} {used : ℕ} {rest : Recorded} → at < length octets
         → item_step octets law set at room ≡ takes i used
         → Reads n (at + used) (room - length (sound_of i)) places rest → Reads (suc n) at room (suc places) (before i rest)
@@ -112,16 +112,16 @@ module _ (octets : List ℕ) (law set : ℕ) where
     pub some : at + length r.items ≤ r.place
     pub inside : at ≤ length octets → r.place ≤ length octets
     -- it ended clean: all items that are allowed are there, or it is at the end
-    pub all : r.end ≡ Done → length r.items < n → length octets ≤ r.place
-    pub full : r.end ≡ Done → r.place < length octets → length r.items ≡ n
-    pub clean : r.end ≡ Done → r.bit ≡ 0
+    pub all : r.end ≡ Ok tt → length r.items < n → length octets ≤ r.place
+    pub full : r.end ≡ Ok tt → r.place < length octets → length r.items ≡ n
+    pub clean : r.end ≡ Ok tt → r.bit ≡ 0
 
   -- Done is no refusal
-  not-refused : {A : Type 0} {r : Refusal} → Refused r ≡ Done → A
+  not-refused : {A : Type 0} {r : Refusal} → ◌≡◌ {A = Ending} (Err r) (Ok tt) → A
   not-refused e = let z : ◌≡◌ {A = ℕ} 0 1 = cc in absurd (omega arith)
 
   told_none : (n at room places : ℕ) → (0 < n → length octets ≤ at) → (at < length octets → 0 ≡ n)
-      → Told n at room places (stopped Done at 0)
+      → Told n at room places (stopped (Ok tt) at 0)
   unfolding sound_in
   told_none n at room places h g =
       record {
@@ -136,7 +136,7 @@ module _ (octets : List ℕ) (law set : ℕ) where
         clean = λ e. refl;
       }
 
-  told-stop : (n at room places : ℕ) (why : Refusal) (bit : ℕ) → Told n at room places (stopped (Refused why) at bit)
+  told-stop : (n at room places : ℕ) (why : Refusal) (bit : ℕ) → Told n at room places (stopped (Err why) at bit)
   unfolding sound_in
   told-stop n at room places why bit =
       record {
@@ -206,8 +206,8 @@ module _ (octets : List ℕ) (law set : ℕ) where
 
       go : (end : Ending) → before i (by_end end (on_from n (room - length (sound_of i)) places r) r)
           ≡ by_end end (on_from n room (suc places) (before i r)) (before i r)
-      go Done = rw (left, fewer)
-      go (Refused w) = refl
+      go (Ok _) = rw (left, fewer)
+      go (Err w) = refl
 
   -- a reading of m + n items is one of m items and, where that ended clean, one of n items from its place on, with the room and places left
   pub items-parts : (m n at room places : ℕ) → items_from (m + n) octets law set at room places
@@ -215,14 +215,14 @@ module _ (octets : List ℕ) (law set : ℕ) where
       (items_from m octets law set at room places)
   items-parts m n at room places = parts (reads m at room places) n
 
-  pub items-on : (m n at room places : ℕ) → (items_from m octets law set at room places).end ≡ Done
+  pub items-on : (m n at room places : ℕ) → (items_from m octets law set at room places).end ≡ Ok tt
       → items_from (m + n) octets law set at room places ≡ on_from n room places (items_from m octets law set at room places)
   items-on m n at room places e =
       let r = items_from m octets law set at room places in
       items-parts m n at room places ∙ ap (λ (end : Ending). by_end end (on_from n room places r) r) e
 
   -- more items allowed do not change a refused reading
-  pub items_kept : (m n at room places : ℕ) {why : Refusal} → (items_from m octets law set at room places).end ≡ Refused why
+  pub items_kept : (m n at room places : ℕ) {why : Refusal} → (items_from m octets law set at room places).end ≡ Err why
       → items_from (m + n) octets law set at room places ≡ items_from m octets law set at room places
   items_kept m n at room places e =
       let r = items_from m octets law set at room places in
@@ -276,21 +276,21 @@ module _ (octets : List ℕ) (law set : ℕ) where
     same : items_from m octets law set at more others ≡ items_from m octets law set at room places
     same = items-roomy m at more others room places (omega (arith, h.0), omega (arith, h.1)) k
 
-    pub items-piece : (items_from m octets law set at room places).end ≡ Done
+    pub items-piece : (items_from m octets law set at room places).end ≡ Ok tt
         → items_from (m + n) octets law set at more others ≡ on_from n more others (items_from m octets law set at room places)
     items-piece e = items-on m n at more others (ap (λ (r : Recorded). r.end) same ∙ e) ∙ ap (on_from n more others) same
 
-    pub items-stopped : {why : Refusal} → (items_from m octets law set at room places).end ≡ Refused why
+    pub items-stopped : {why : Refusal} → (items_from m octets law set at room places).end ≡ Err why
         → items_from (m + n) octets law set at more others ≡ items_from m octets law set at room places
     items-stopped e = items_kept m n at more others (ap (λ (r : Recorded). r.end) same ∙ e) ∙ same
 
-    pub items_left : (items_from m octets law set at room places).end ≡ Done
+    pub items_left : (items_from m octets law set at room places).end ≡ Ok tt
         → Roomy n (items_from m octets law set at room places).place
         (more - length (sound_in (items_from m octets law set at room places).items))
         (others - length (items_from m octets law set at room places).items)
     items_left e = go (items_from m octets law set at room places) (items-told m at room places) e (leb (length octets) _) refl
       where
-        go : (r : Recorded) → Told m at room places r → r.end ≡ Done → (b : Bool) → leb (length octets) r.place ≡ b
+        go : (r : Recorded) → Told m at room places r → r.end ≡ Ok tt → (b : Bool) → leb (length octets) r.place ≡ b
             → Roomy n r.place (more - length (sound_in r.items)) (others - length r.items)
         go r t e true l = let z = leb-true (length octets) r.place l in (omega arith, omega arith)
         go r t e false l =

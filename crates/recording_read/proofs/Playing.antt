@@ -8,15 +8,14 @@ use mathlib.Core.Path.{◌≡◌, refl, sym, ap, subst, ◌∙◌}
 use mathlib.Core.List.{List, [], ◌∷◌, ◌++◌, map, append-nil, map-append}
 use lib.ListN.{length, take, drop, set, length-map, length-take}
 use lib.Seq.{set_split, drop-drop}
-use Rattle.rules.specs.declared.Refusal.{Refusal}
 use Rattle.rules.specs.declared.Refusal.TheVariants as rules
-use Rattle.rules.specs.declared.Ending.TheVariants as ending
+use Rattle.std.proofs.Common.{Ok, Err}
 use Rattle.rules.proofs.Lent.{Lent, lent-start, lent_length, lent-at-start, lent-more}
 use Rattle.recording.specs.declared.Refusal.TheVariants.{Frame}
-use Rattle.recording.specs.declared.Ending.{Ending}
-use Rattle.recording.specs.declared.Ending.TheVariants.{Done, Refused}
+use Rattle.recording.specs.Endings.{Ending}
 use Rattle.recording.specs.Items.{Item, Recorded, stopped, items_from, sound_of, sound_in, cell_of}
 use Rattle.recording_read.specs.declared.Turn.{Turn}
+use Rattle.recording_read.specs.declared.Stop.{Stop}
 use Rattle.recording_read.specs.declared.Played.{Played}
 use Rattle.recording_read.specs.Turns.{item_step, Turned}
 use Rattle.recording_read.specs.Plays.{Plays}
@@ -72,36 +71,32 @@ module _ (octets : List ℕ) (law set' fuel from : ℕ) (out₀ cells₀ : List 
           told = rw append-nil (lent-at-start w.told);
         })
 
-    pub play-last : fuel ≤ count → Plays whole (played_of Done count at to 0) out₀ out cells₀ cells
-    play-last h = play-stop Done 0 (items-last octets law set' (fuel - count) at (length out₀ - to) (length cells₀ - count) (omega arith))
+    pub play-last : fuel ≤ count → Plays whole (played_of (Ok tt) count at to 0) out₀ out cells₀ cells
+    play-last h = play-stop (Ok tt) 0 (items-last octets law set' (fuel - count) at (length out₀ - to) (length cells₀ - count) (omega arith))
 
-    pub play-ended : length octets ≤ at → Plays whole (played_of Done count at to 0) out₀ out cells₀ cells
-    play-ended h = play-stop Done 0 (items-ended octets law set' (fuel - count) at (length out₀ - to) (length cells₀ - count) h)
+    pub play-ended : length octets ≤ at → Plays whole (played_of (Ok tt) count at to 0) out₀ out cells₀ cells
+    play-ended h = play-stop (Ok tt) 0 (items-ended octets law set' (fuel - count) at (length out₀ - to) (length cells₀ - count) h)
 
     pub play-full : count < fuel → at < length octets → length cells ≤ count
-        → Plays whole (played_of (Refused (Frame rules.Room)) count at to 0) out₀ out cells₀ cells
+        → Plays whole (played_of (Err (Frame rules.Room)) count at to 0) out₀ out cells₀ cells
     play-full g h p =
-        play-stop (Refused (Frame rules.Room)) 0
+        play-stop (Err (Frame rules.Room)) 0
         (items-full octets law set' (fuel - count) (fuel - (count + 1)) at (length out₀ - to) (length cells₀ - count) (omega arith) h
         (omega (arith, lent_length w.told)))
 
     -- an item is looked at
-    module _ (g : count < fuel) (h : at < length octets) (p : count < length cells) {r : Turn} {buffer' : List ℕ}
-        (t : Turned (item_step octets law set' at (length out - to)) r buffer') where
-      turned : Turned (item_step octets law set' at (length out₀ - to)) r buffer'
-      turned = rw (lent_length w.kept) at t
-
+    module _ (g : count < fuel) (h : at < length octets) (p : count < length cells) where
       -- a frame that is refused
-      pub play-refused : (why : Refusal) → r.end ≡ ending.Refused why
-          → Plays whole (played_of (Refused (Frame why)) count at to r.bit) out₀ out cells₀ cells
-      play-refused why e =
-          play-stop (Refused (Frame why)) r.bit
+      pub play-refused : {stop : Stop} {buffer' : List ℕ} → Turned (item_step octets law set' at (length out - to)) (Err stop) buffer'
+          → Plays whole (played_of (Err (Frame stop.why)) count at to stop.bit) out₀ out cells₀ cells
+      play-refused {stop} t =
+          play-stop (Err (Frame stop.why)) stop.bit
           (items-off octets law set' (fuel - count) (fuel - (count + 1)) at (length out₀ - to) (length cells₀ - count) (omega arith) h
-          (omega (arith, lent_length w.told)) why r.bit (refused turned.tells e))
+          (omega (arith, lent_length w.told)) stop.why stop.bit (refused (rw (lent_length w.kept) at t)))
 
-      module _ (e : r.end ≡ ending.Done) where
+      module _ {r : Turn} {buffer' : List ℕ} (t : Turned (item_step octets law set' at (length out - to)) (Ok r) buffer') where
         one : Taken (item_step octets law set' at (length out₀ - to)) r buffer'
-        one = taken turned e
+        one = taken (rw (lent_length w.kept) at t)
 
         pub play-fits : (at + r.octets ≤ length octets) × (r.len ≤ length buffer') × (to + r.len ≤ length out)
         play-fits =

@@ -14,7 +14,7 @@ use Rattle.rules.specs.Samples.{mask_of}
 use Rattle.rules.specs.Reading.{Read, whole, refuse}
 use Rattle.rules.specs.Frame.{Found, octets_used, read_one}
 use Rattle.recording.specs.declared.Refusal.TheVariants.{Frame}
-use Rattle.recording.specs.declared.Ending.TheVariants.{Done, Refused}
+use Rattle.std.proofs.Common.{Ok, Err}
 use Rattle.recording.specs.Remembered.{lost_octet, erased}
 use Rattle.recording.specs.Items.{Item, sound, lost, Recorded, stopped, before, item_of, room_taken, after_read, items_from, sound_of, sound_in}
 use Rattle.recording_read.specs.Turns.{Step, takes, stops, frame_step, item_step}
@@ -22,7 +22,7 @@ use Rattle.recording_read.specs.Turns.{Step, takes, stops, frame_step, item_step
 -- what a step leads to: the item and then the rest, or the end
 abbrev pub by_step : Step → ℕ → (Item → ℕ → Recorded) → Recorded
 by_step (takes i used) at next = next i used
-by_step (stops w bit) at next = stopped (Refused (Frame w)) at bit
+by_step (stops w bit) at next = stopped (Err (Frame w)) at bit
 
 -- the sound of items, one more
 pub sound_in-append : (a b : List Item) → sound_in (a ++ b) ≡ sound_in a ++ sound_in b
@@ -43,11 +43,11 @@ after-before done i r =
     ap (λ (l : List Item). record { items = l; end = r.end; place = r.place; bit = r.bit }) (sym (append_assoc done (i ∷ []) r.items))
 
 module _ (octets : List ℕ) (law set : ℕ) where
-  pub items-last : (n at room places : ℕ) → n ≡ 0 → items_from n octets law set at room places ≡ stopped Done at 0
+  pub items-last : (n at room places : ℕ) → n ≡ 0 → items_from n octets law set at room places ≡ stopped (Ok tt) at 0
   unfolding items_from
   items-last n at room places e = rw e
 
-  pub items-ended : (n at room places : ℕ) → length octets ≤ at → items_from n octets law set at room places ≡ stopped Done at 0
+  pub items-ended : (n at room places : ℕ) → length octets ≤ at → items_from n octets law set at room places ≡ stopped (Ok tt) at 0
   unfolding items_from
   items-ended zero at room places h = refl
   items-ended (suc n) at room places h = rw (le-leb (length octets) at h)
@@ -57,7 +57,7 @@ module _ (octets : List ℕ) (law set : ℕ) where
   rest_from n at room places i used = before i (items_from n octets law set (at + used) (room - length (sound_of i)) (places - 1))
 
   module _ (more n at room places : ℕ) (e : more ≡ suc n) (h : at < length octets) where
-    pub items-full : places ≡ 0 → items_from more octets law set at room places ≡ stopped (Refused (Frame rules.Room)) at 0
+    pub items-full : places ≡ 0 → items_from more octets law set at room places ≡ stopped (Err (Frame rules.Room)) at 0
     unfolding items_from
     items-full p = rw (e, p, lt-leb (length octets) at h)
 
@@ -87,7 +87,7 @@ module _ (octets : List ℕ) (law set : ℕ) where
         go false = one (read_one (drop at octets) law set room)
 
     pub items-off : 1 ≤ places → (why : Refusal) (bit : ℕ) → item_step octets law set at room ≡ stops why bit
-        → items_from more octets law set at room places ≡ stopped (Refused (Frame why)) at bit
+        → items_from more octets law set at room places ≡ stopped (Err (Frame why)) at bit
     items-off p why bit q = items-step p ∙ ap (λ (s : Step). by_step s at (rest_from n at room places)) q
 
     pub items-one : 1 ≤ places → (i : Item) (used left fewer : ℕ) → item_step octets law set at room ≡ takes i used

@@ -16,7 +16,7 @@ use Rattle.text_keyvalue.specs.Reading.{begins}
 use Rattle.text_keyvalue.proofs.Lines.{begins-fits}
 use Rattle.recording.specs.declared.Refusal.{Refusal}
 use Rattle.recording.specs.declared.Refusal.TheVariants.{Head, Frame}
-use Rattle.recording.specs.declared.Ending.TheVariants.{Refused}
+use Rattle.std.proofs.Common.{Err}
 use Rattle.recording.specs.declared.FileRead.{FileRead}
 use Rattle.recording.specs.Remembered.{heading, no_heading, headed, heading_of, heading_length}
 use Rattle.recording.specs.Items.{items_from, nothing, read_file, sound_in}
@@ -83,7 +83,7 @@ module _ (octets : List ℕ) where
 
 -- a file that is refused before its items
 pub reads_none : (why : Refusal) (law : ℕ) (out cells : List ℕ)
-    → Reads (nothing why law) (record { end = Refused why; law = law; items = 0; octets = 0; samples = 0; bit = 0 }) out out cells cells
+    → Reads (nothing why law) (record { end = Err why; law = law; items = 0; octets = 0; samples = 0; bit = 0 }) out out cells cells
 unfolding sound_in
 reads_none why law out cells =
     record { end = refl; law = refl; items = refl; octets = refl; samples = refl; bit = refl; lent = refl; told = refl }

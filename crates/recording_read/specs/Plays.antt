@@ -6,8 +6,8 @@ use Rattle.recording.specs.Items.{Recorded, items_from, File, sound_in, cell_of}
 use Rattle.recording.specs.Calls.{Reads}
 use Rattle.recording.specs.declared.FileRead.{FileRead}
 use Rattle.recording_read.specs.declared.Played.{Played}
-use Rattle.recording_read.specs.declared.Heading.{Heading}
-use Rattle.recording_read.specs.declared.Heading.TheVariants.{Law, Missing}
+use Rattle.std.specs.declared.option.Option.{Option}
+use Rattle.std.specs.declared.option.Option.TheVariants.{Some, None}
 
 -- the frames' samples stand at the output's start, the items at that of theirs; the rest of both is as lent
 pub record Plays (read : Recorded) (r : Played) (out out' cells cells' : List ℕ) : Type 0 where
@@ -25,9 +25,9 @@ PlayOn octets law set at items out out' cells cells' r =
     Plays (items_from items octets law set at (length out) (length cells)) r out out' cells cells'
 
 -- what a heading says
-abbrev pub as_headed : Heading → Headed
-as_headed (Law law) = heading law
-as_headed Missing = no_heading
+abbrev pub as_headed : Option ℕ → Headed
+as_headed (Some law) = heading law
+as_headed None = no_heading
 
 -- a file whose heading says this law, its items read to the end
 abbrev pub whole_file : List ℕ → ℕ → ℕ → ℕ → ℕ → File

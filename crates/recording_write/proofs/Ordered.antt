@@ -9,7 +9,7 @@ use lib.ListN.{length}
 use borrow.Author.Tests.{le-leb, lt-leb, le-ltb, lt-ltb}
 use Rattle.rules.specs.declared.Refusal as rules
 use Rattle.rules.specs.declared.Refusal.TheVariants.{Length, Long, Room}
-use Rattle.rules.specs.declared.Ending.TheVariants as asked
+use Rattle.std.proofs.Common.{Ok, Err}
 use Rattle.rules.specs.Refusals.{verdict}
 use Rattle.rules.specs.Tools.{writer_asks}
 use Rattle.rules.specs.Samples.{mask_of}
@@ -18,7 +18,6 @@ use Rattle.rules.proofs.Guards.{verdict-refused, verdict-done}
 use Rattle.text_lines.specs.Puts.{Puts}
 use Rattle.text_lines.proofs.Putting.{puts_then, puts_first}
 use Rattle.recording.specs.declared.Refusal.TheVariants.{Frame}
-use Rattle.recording.specs.declared.Ending.TheVariants.{Done}
 use Rattle.recording.specs.declared.FileWritten.{FileWritten}
 use Rattle.recording.specs.Remembered.{heading_of, heading_length}
 use Rattle.recording.specs.Files.{entries_octets, Given, given, wrong, given_by, Filed, filed, declined, sized, file_given, write_file}
@@ -35,13 +34,13 @@ written_as {r = r} {out = out} {out' = out'} e w = subst (λ (f : Filed). Writes
 
 -- LAW and SET, then what is given
 module _ (samples cells : List ℕ) (law set room : ℕ) where
-  pub file-refused : {why : rules.Refusal} → verdict (writer_asks law set) ≡ asked.Refused why
+  pub file-refused : {why : rules.Refusal} → verdict (writer_asks law set) ≡ Err why
       → declined (Frame why) ≡ write_file samples cells law set room
   unfolding write_file
   file-refused e = sym
       (verdict-refused (λ why. declined (Frame why)) (file_given law set (given_by cells samples) room) (writer_asks law set) e)
 
-  pub file-given : verdict (writer_asks law set) ≡ asked.Done → file_given law set (given_by cells samples) room ≡ write_file
+  pub file-given : verdict (writer_asks law set) ≡ Ok tt → file_given law set (given_by cells samples) room ≡ write_file
       samples cells law set room
   unfolding write_file
   file-given e = sym (verdict-done (λ why. declined (Frame why)) (file_given law set (given_by cells samples) room) (writer_asks law set) e)
@@ -80,8 +79,8 @@ pub file-written : (samples cells : List ℕ) (law set : ℕ) {out o out' : List
     → length (octets_given (mask_of law) set cells samples) ≤ longest
     → heading_length + length (octets_given (mask_of law) set cells samples) ≤ length out
     → Puts out 0 (heading_of law) o at → Puts o at (octets_given (mask_of law) set cells samples) out' n
-    → Writes (file_given law set (given_by cells samples) (length out)) (record { end = Done; octets = n }) out out'
+    → Writes (file_given law set (given_by cells samples) (length out)) (record { end = Ok tt; octets = n }) out out'
 file-written samples cells law set {out} {o} {out'} {at} {n} g s h p q =
     let all = puts_then p q in
-    subst (λ (f : Filed). Writes f (record { end = Done; octets = n }) out out') (fits samples cells law set (length out) g s h)
+    subst (λ (f : Filed). Writes f (record { end = Ok tt; octets = n }) out out') (fits samples cells law set (length out) g s h)
     (record { end = refl; octets = omega (arith, all.place); lent = puts_first all })

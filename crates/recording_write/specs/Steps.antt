@@ -7,7 +7,7 @@ use Rattle.rules.specs.Tools.{is_law, is_writer_set}
 use Rattle.rules.specs.Walk.{longest}
 use Rattle.rules.specs.declared.Refusal as rules
 use Rattle.recording.specs.declared.Refusal.TheVariants.{Frame}
-use Rattle.recording.specs.declared.Ending.TheVariants.{Refused}
+use Rattle.std.specs.Prelude.{Err}
 use Rattle.recording.specs.declared.FileWritten.{FileWritten}
 use Rattle.recording.specs.Remembered.{heading_length, plus_plus}
 use Rattle.recording.specs.Files.{entry_octets, six_lengths, given_by, file_given}
@@ -55,7 +55,7 @@ pub record Settles (total room r : ℕ) : Type 0 where
 
 -- a refusal
 pub record Declines (why : rules.Refusal) (r : FileWritten) : Type 0 where
-  pub end : r.end ≡ Refused (Frame why)
+  pub end : r.end ≡ Err (Frame why)
   pub octets : r.octets ≡ 0
 
 -- after LAW, SET and LENGTH: "LONG, ROOM (heading and all)"

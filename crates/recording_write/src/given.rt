@@ -13,19 +13,17 @@ pub fn length_in(c: u16) -> usize
     ensures { result ≡ length_in c }
 {
     if c < LOSS_FROM {
-        return c as usize;
+        usize::from(c)
+    } else {
+        usize::from(c - LOSS_FROM)
     }
-    (c - LOSS_FROM) as usize
 }
 
 // The samples that an item takes: a loss takes none.
 pub fn samples_in(c: u16) -> usize
     ensures { result ≡ taken c }
 {
-    if c < LOSS_FROM {
-        return c as usize;
-    }
-    0
+    if c < LOSS_FROM { usize::from(c) } else { 0 }
 }
 
 // "one of the six lengths", 0 among them.
@@ -33,20 +31,15 @@ fn is_item(c: u16) -> bool
     ensures { result ≡ six_lengths (length_in c) }
 {
     let n = length_in(c);
-    if n == 0 {
-        return true;
-    }
-    is_length(n)
+    n == 0 || is_length(n)
 }
 
 // Whether items and samples are frames and losses: item by item, and no sample is left over.
 pub fn are_given(samples: &[u8], cells: &[u16]) -> bool
     ensures { result ≡ is_given (given_by cells.now samples.now) }
 {
-    let mut i = 0;
     let mut from = 0;
-    while i < cells.len() {
-        let c = cells[i];
+    for &c in cells {
         if !is_item(c) {
             return false;
         }
@@ -55,7 +48,6 @@ pub fn are_given(samples: &[u8], cells: &[u16]) -> bool
             return false;
         }
         from += n;
-        i += 1;
     }
     samples.len() == from
 }

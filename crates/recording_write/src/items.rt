@@ -53,12 +53,12 @@ fn put_item(
 {
     let n = length_in(c);
     if c < LOSS_FROM {
-        return put_form(&samples[from..from + n], by, out, at);
+        put_form(&samples[from..from + n], by, out, at)
+    } else if n == 0 {
+        put_lost(out, at)
+    } else {
+        put_form(&quiet[..n], by, out, at)
     }
-    if n == 0 {
-        return put_lost(out, at);
-    }
-    put_form(&quiet[..n], by, out, at)
 }
 
 // All items, in their order.
@@ -75,14 +75,11 @@ pub fn put_items(
     requires samples_in_bounds { at + length (all_by by cells.now samples.now) ≤ length out.old }
     ensures { Puts out.old at (all_by by cells.now samples.now) out.new result }
 {
-    let mut i = 0;
     let mut from = 0;
     let mut to = at;
-    while i < cells.len() {
-        let c = cells[i];
+    for &c in cells {
         to = put_item(samples, from, c, by, quiet, out, to);
         from += samples_in(c);
-        i += 1;
     }
     to
 }

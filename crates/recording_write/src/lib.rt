@@ -12,7 +12,7 @@ use given::are_given;
 use items::{By, put_items};
 use law::mask_of;
 use recording::marking::{HEADING, heading_of, plus_plus};
-use recording::{Ending, FileWritten, Refusal};
+use recording::{FileWritten, Refusal};
 use rules::LONGEST;
 use sizes::octets_to_judge;
 
@@ -25,7 +25,7 @@ fn refused(why: rules::Refusal) -> FileWritten
     ensures { Declines why result }
 {
     FileWritten {
-        end: Ending::Refused(Refusal::Frame(why)),
+        end: Err(Refusal::Frame(why)),
         octets: 0,
     }
 }
@@ -37,7 +37,7 @@ fn write_given(samples: &[u8], cells: &[u16], law: u32, set: u32, out: &mut [u8]
     ensures { WriteGiven samples.now cells.now law set out.old out.new result }
 {
     let quiet = [plus_plus(mask_of(law)); 320];
-    let by = By { law: law, set: set };
+    let by = By { law, set };
     let after = octets_to_judge(samples, cells, by, &quiet, out.len());
     if LONGEST < after {
         return refused(rules::Refusal::Long);
@@ -49,7 +49,7 @@ fn write_given(samples: &[u8], cells: &[u16], law: u32, set: u32, out: &mut [u8]
     let at = text_lines::put_word(&heading, out, 0);
     let octets = put_items(samples, cells, by, &quiet, out, at);
     FileWritten {
-        end: Ending::Done,
+        end: Ok(()),
         octets,
     }
 }
@@ -59,8 +59,8 @@ pub fn write_file(samples: &[u8], cells: &[u16], law: u32, set: u32, out: &mut [
     ensures { WriteFile samples.now cells.now law set out.old out.new result }
 {
     match rules::guard_writer(law, set) {
-        rules::Ending::Refused(why) => refused(why),
-        rules::Ending::Done => {
+        Err(why) => refused(why),
+        Ok(()) => {
             if !are_given(samples, cells) {
                 return refused(rules::Refusal::Length);
             }

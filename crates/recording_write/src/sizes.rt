@@ -20,11 +20,11 @@ fn form_octets(frame: &[u8], by: By) -> usize
     ensures { (result ≡ length (form_by by frame.now)) × (result ≤ 321) }
 {
     let mut room = [0u8; FORM_MOST];
-    let w = writer::write_samples(frame, by.law, by.set, &mut room);
-    w.octets
+    writer::write_samples(frame, by.law, by.set, &mut room).octets
 }
 
 // An item: a frame, a loss of unknown length, or one of a length.
+// Apart from `put_item`: that one writes, this one measures into a room of its own.
 fn item_octets(samples: &[u8], from: usize, c: u16, by: By, quiet: &[u8]) -> usize
     requires item_in { (ItemIn (drop from samples.now) c) × (from ≤ length samples.now) }
     requires lawful { (Lawful by) × (Quiet (mask_of by.law) quiet.now) }
@@ -32,12 +32,12 @@ fn item_octets(samples: &[u8], from: usize, c: u16, by: By, quiet: &[u8]) -> usi
 {
     let n = length_in(c);
     if c < LOSS_FROM {
-        return form_octets(&samples[from..from + n], by);
+        form_octets(&samples[from..from + n], by)
+    } else if n == 0 {
+        1
+    } else {
+        form_octets(&quiet[..n], by)
     }
-    if n == 0 {
-        return 1;
-    }
-    form_octets(&quiet[..n], by)
 }
 
 // All items, or as many as are LONG together.
@@ -46,17 +46,14 @@ fn all_octets(samples: &[u8], cells: &[u16], by: By, quiet: &[u8]) -> usize
     requires lawful { (Lawful by) × (Quiet (mask_of by.law) quiet.now) }
     ensures { Measures (length (all_by by cells.now samples.now)) result }
 {
-    let mut i = 0;
     let mut from = 0;
     let mut sum = 0;
-    while i < cells.len() {
+    for &c in cells {
         if LONGEST < sum {
             return sum;
         }
-        let c = cells[i];
         sum += item_octets(samples, from, c, by, quiet);
         from += samples_in(c);
-        i += 1;
     }
     sum
 }
@@ -68,19 +65,17 @@ fn item_most(c: u16) -> usize
     length_in(c) + 1
 }
 
-// The most that all items may have, or as many of these octets as are LONG together.
+// The most that all items may have, or as many of these octets as are LONG together. As `all_octets`, but no sample is looked at.
+// Apart from it: of a closure that changes what it captures the proof learns nothing of what it returned.
 fn most_octets(cells: &[u16]) -> usize
     ensures { Measures (most_for cells.now) result }
 {
-    let mut i = 0;
     let mut sum = 0;
-    while i < cells.len() {
+    for &c in cells {
         if LONGEST < sum {
             return sum;
         }
-        let c = cells[i];
         sum += item_most(c);
-        i += 1;
     }
     sum
 }
@@ -92,10 +87,9 @@ pub fn octets_to_judge(samples: &[u8], cells: &[u16], by: By, quiet: &[u8], room
     ensures { Settles (length (all_by by cells.now samples.now)) room result }
 {
     let most = most_octets(cells);
-    if most <= LONGEST {
-        if HEADING + most <= room {
-            return most;
-        }
+    if most <= LONGEST && HEADING + most <= room {
+        most
+    } else {
+        all_octets(samples, cells, by, quiet)
     }
-    all_octets(samples, cells, by, quiet)
 }

@@ -12,8 +12,8 @@ use lib.ListN.{length, drop, length-append, length-drop}
 use lib.Dec.{leb}
 use borrow.Author.Tests.{le-leb, lt-leb, leb-true, leb-false}
 use Rattle.rules.specs.declared.Refusal.{Refusal}
-use Rattle.rules.specs.declared.Ending.{Ending}
-use Rattle.rules.specs.declared.Ending.TheVariants.{Done, Refused}
+use Rattle.rules.specs.Refusals.{Ending}
+use Rattle.std.proofs.Common.{Ok, Err}
 use Rattle.rules.specs.Reading.{Read, whole, refuse}
 use Rattle.rules.specs.Frame.{Found, octets_used, read_one}
 use Rattle.rules.specs.Walk.{Delivered, Walked, stopped, before, onward, walk_from, octets_kept, samples_kept}
@@ -51,23 +51,23 @@ after-before done f w =
 
 -- by how a walk ended: `more` after a clean end, `kept` after a refusal
 abbrev pub by_end : Ending → Walked → Walked → Walked
-by_end Done more kept = more
-by_end (Refused r) more kept = kept
+by_end (Ok _) more kept = more
+by_end (Err r) more kept = kept
 
 module _ (octets : List ℕ) (law set : ℕ) where
   -- the steps of the definition: no frame is allowed, the stream's end, a frame that is refused, a frame and then the rest
-  pub walk-last : (n at room : ℕ) → n ≡ 0 → walk_from n octets law set at room ≡ stopped Done at 0
+  pub walk-last : (n at room : ℕ) → n ≡ 0 → walk_from n octets law set at room ≡ stopped (Ok tt) at 0
   unfolding walk_from
   walk-last n at room e = rw e
 
-  pub walk-ended : (n at room : ℕ) → length octets ≤ at → walk_from n octets law set at room ≡ stopped Done at 0
+  pub walk-ended : (n at room : ℕ) → length octets ≤ at → walk_from n octets law set at room ≡ stopped (Ok tt) at 0
   unfolding walk_from
   walk-ended zero at room h = refl
   walk-ended (suc n) at room h = rw (le-leb (length octets) at h)
 
   module _ (more n at room : ℕ) (e : more ≡ suc n) (h : at < length octets) where
     pub walk-off : (bit : ℕ) (why : Refusal) → read_one (drop at octets) law set room ≡ refuse why bit
-        → walk_from more octets law set at room ≡ stopped (Refused why) at bit
+        → walk_from more octets law set at room ≡ stopped (Err why) at bit
     unfolding walk_from
     walk-off bit why q = rw (e, lt-leb (length octets) at h, q)
 
@@ -79,10 +79,10 @@ module _ (octets : List ℕ) (law set : ℕ) where
 
   -- a walk of at most so many frames, from a place on, with so much room
   pub data Walks : ℕ → ℕ → ℕ → Walked → Type 0 where
-    last : {at room : ℕ} → Walks 0 at room (stopped Done at 0)
-    ended : {n at room : ℕ} → length octets ≤ at → Walks n at room (stopped Done at 0)
+    last : {at room : ℕ} → Walks 0 at room (stopped (Ok tt) at 0)
+    ended : {n at room : ℕ} → length octets ≤ at → Walks n at room (stopped (Ok tt) at 0)
     refused : {n at room : ℕ} {w : Refusal} {bit : ℕ} → at < length octets → read_one (drop at octets) law set room ≡ refuse w bit
-        → Walks (suc n) at room (stopped (Refused w) at bit)
+        → Walks (suc n) at room (stopped (Err w) at bit)
     delivers : {n at room : ℕ} {f : Found} {j : ℕ} {rest : Walked} → at < length octets → read_one (drop at octets) law set room ≡ whole f j
         → Walks n (at + octets_used f) (room - length f.samples) rest
         → Walks (suc n) at room (before (record { place = at; found = f }) rest)
@@ -96,7 +96,7 @@ module _ (octets : List ℕ) (law set : ℕ) where
       next f = before (record { place = at; found = f }) (walk_from n octets law set (at + octets_used f) (room - length f.samples))
 
       stop : Refusal → ℕ → Walked
-      stop w bit = stopped (Refused w) at bit
+      stop w bit = stopped (Err w) at bit
 
       Later : Type 0
       Later = (f : Found) → Walks n (at + octets_used f) (room - length f.samples)
@@ -108,7 +108,7 @@ module _ (octets : List ℕ) (law set : ℕ) where
       one (refuse w bit) e l later = refused l e
 
       start : (b : Bool) → leb (length octets) at ≡ b → Later
-          → Walks (suc n) at room (cond b (stopped Done at 0) (onward (read_one (drop at octets) law set room) next stop))
+          → Walks (suc n) at room (cond b (stopped (Ok tt) at 0) (onward (read_one (drop at octets) law set room) next stop))
       start true e later = ended (leb-true (length octets) at e)
       start false e later = one (read_one (drop at octets) law set room) refl (leb-false (length octets) at e) later
 
@@ -121,21 +121,21 @@ module _ (octets : List ℕ) (law set : ℕ) where
     pub some : length w.frames ≤ octets_kept w.frames
     pub held : length (samples_kept w.frames) ≤ 320 * length w.frames
     -- it ended clean: all frames that are allowed are there, or it is at the stream's end
-    pub whole : w.end ≡ Done → length w.frames < n → length octets ≤ w.place
-    pub full : w.end ≡ Done → w.place < length octets → length w.frames ≡ n
-    pub clean : w.end ≡ Done → w.bit ≡ 0
+    pub whole : w.end ≡ Ok tt → length w.frames < n → length octets ≤ w.place
+    pub full : w.end ≡ Ok tt → w.place < length octets → length w.frames ≡ n
+    pub clean : w.end ≡ Ok tt → w.bit ≡ 0
     -- it was refused: the frame at its place is, with the room left
-    pub refusal : {r : Refusal} → w.end ≡ Refused r → (w.place < length octets) × (length w.frames < n)
+    pub refusal : {r : Refusal} → w.end ≡ Err r → (w.place < length octets) × (length w.frames < n)
         × (read_one (drop w.place octets) law set (room - length (samples_kept w.frames)) ≡ refuse r w.bit)
 
   -- Done is no refusal
-  not-refused : {A : Type 0} {r : Refusal} → Done ≡ Refused r → A
+  not-refused : {A : Type 0} {r : Refusal} → ◌≡◌ {A = Ending} (Ok tt) (Err r) → A
   not-refused e = let z : ◌≡◌ {A = ℕ} 0 1 = cc in absurd (omega arith)
 
-  is-refusal : {r u : Refusal} → Refused r ≡ Refused u → r ≡ u
+  is-refusal : {r u : Refusal} → ◌≡◌ {A = Ending} (Err r) (Err u) → r ≡ u
   is-refusal e = cc
 
-  told_none : (n at room : ℕ) → (0 < n → length octets ≤ at) → (at < length octets → 0 ≡ n) → Told n at room (stopped Done at 0)
+  told_none : (n at room : ℕ) → (0 < n → length octets ≤ at) → (at < length octets → 0 ≡ n) → Told n at room (stopped (Ok tt) at 0)
   unfolding octets_kept samples_kept
   told_none n at room h g =
       record {
@@ -215,8 +215,8 @@ module _ (octets : List ℕ) (law set : ℕ) where
 
       go : (end : Ending) → before d (by_end end (on_from n (room - length f.samples) w) w) ≡ by_end end (on_from n room (before d w))
           (before d w)
-      go Done = rw left
-      go (Refused r) = refl
+      go (Ok _) = rw left
+      go (Err r) = refl
 
   -- a walk of m + n frames is one of m frames and, where that ended clean, one of n frames from its place on, with the room left
   pub walk-parts : (m n at room : ℕ) → walk_from (m + n) octets law set at room
@@ -224,13 +224,13 @@ module _ (octets : List ℕ) (law set : ℕ) where
       (walk_from m octets law set at room)
   walk-parts m n at room = parts (walks m at room) n
 
-  pub walk-on : (m n at room : ℕ) → (walk_from m octets law set at room).end ≡ Done
+  pub walk-on : (m n at room : ℕ) → (walk_from m octets law set at room).end ≡ Ok tt
       → walk_from (m + n) octets law set at room ≡ on_from n room (walk_from m octets law set at room)
   walk-on m n at room e = walk-parts m n at room
       ∙ ap (λ (end : Ending). by_end end (on_from n room (walk_from m octets law set at room)) (walk_from m octets law set at room)) e
 
   -- more frames allowed do not change a refused walk
-  pub walk_kept : (m n at room : ℕ) {r : Refusal} → (walk_from m octets law set at room).end ≡ Refused r
+  pub walk_kept : (m n at room : ℕ) {r : Refusal} → (walk_from m octets law set at room).end ≡ Err r
       → walk_from (m + n) octets law set at room ≡ walk_from m octets law set at room
   walk_kept m n at room e = walk-parts m n at room
       ∙ ap (λ (end : Ending). by_end end (on_from n room (walk_from m octets law set at room)) (walk_from m octets law set at room)) e

@@ -1,8 +1,8 @@
 -- The contract of each public call: what its answer and the lent output are, for all inputs.
 -- `out` is the output as lent, `out'` as the call leaves it; the output's length is the room.
 use Rattle.std.specs.Prelude.{ℕ, ◌-◌, ◌≡◌, List, [], ◌++◌, length, drop, replicate}
-use Rattle.rules.specs.declared.Ending.{Ending}
-use Rattle.rules.specs.declared.Ending.TheVariants.{Done, Refused}
+use Rattle.rules.specs.Refusals.{Ending}
+use Rattle.std.specs.Prelude.{Ok, Err}
 use Rattle.rules.specs.declared.Frame.{Frame}
 use Rattle.rules.specs.declared.ReadAnswer.{ReadAnswer}
 use Rattle.rules.specs.declared.WalkAnswer.{WalkAnswer}
@@ -17,8 +17,8 @@ use Rattle.rules.specs.Walk.{Walked, walk_all, octets_kept, samples_kept}
 -- what a reading reports: "A refused single call writes nothing and reports 0 samples, 0 octets used, 0 bits and tool 0, save that TOOL
 -- gives the tool."
 abbrev pub read_end : Read Found → Ending
-read_end (whole f i) = Done
-read_end (refuse w at) = Refused w
+read_end (whole f i) = Ok tt
+read_end (refuse w at) = Err w
 
 abbrev pub read_samples : Read Found → List ℕ
 read_samples (whole f i) = f.samples
@@ -66,8 +66,8 @@ ReadFrame octets law set out out' r = Reads (read_one octets law set (length out
 
 -- what a writing reports
 abbrev pub write_end : Write → Ending
-write_end (wrote w) = Done
-write_end (declined w) = Refused w
+write_end (wrote w) = Ok tt
+write_end (declined w) = Err w
 
 abbrev pub written_bits : Write → List ℕ
 written_bits (wrote w) = w.bits

@@ -2,8 +2,8 @@
 use Rattle.std.specs.Prelude.{ℕ, zero, suc, ◌+◌, ◌-◌, List, [], ◌∷◌, ◌++◌, cond, length, drop, leb}
 use Rattle.rules.specs.declared.Refusal.{Refusal}
 use Rattle.rules.specs.declared.Refusal.TheVariants.{Set, Law, Long}
-use Rattle.rules.specs.declared.Ending.{Ending}
-use Rattle.rules.specs.declared.Ending.TheVariants.{Done, Refused}
+use Rattle.rules.specs.Refusals.{Ending}
+use Rattle.std.specs.Prelude.{Ok, Err}
 use Rattle.rules.specs.Refusals.{Asked, ask, judged}
 use Rattle.rules.specs.Tools.{is_set, is_law}
 use Rattle.rules.specs.Reading.{Read, whole, refuse}
@@ -37,12 +37,12 @@ onward (refuse w at) next stop = stop w at
 -- and can be taken up again there (proofs/Walk, `walk-parts`). Each frame has an octet, so one more than the octets is never short
 -- (`walk-fuel`).
 unfoldable pub walk_from : ℕ → List ℕ → ℕ → ℕ → ℕ → ℕ → Walked
-walk_from zero octets law set at room = stopped Done at 0
+walk_from zero octets law set at room = stopped (Ok tt) at 0
 walk_from (suc more) octets law set at room =
-    cond (leb (length octets) at) (stopped Done at 0)
+    cond (leb (length octets) at) (stopped (Ok tt) at 0)
     (onward (read_one (drop at octets) law set room)
     (λ f. before (record { place = at; found = f }) (walk_from more octets law set (at + octets_used f) (room - length f.samples)))
-    (λ w bit. stopped (Refused w) at bit))
+    (λ w bit. stopped (Err w) at bit))
 
 -- "more than" so many octets: document 02, R-11, "Walks take up to 1,048,576 octets"; "LONG, and with it demand 3, moves to the new limit"
 abbrev pub longest : ℕ
@@ -55,7 +55,7 @@ walk_asks law set octets = ask Law (is_law law) ∷ ask Set (is_set set) ∷ ask
 -- "LAW, SET and LONG refuse a walk before any frame, with place 0."
 unfoldable pub walk_all : List ℕ → ℕ → ℕ → ℕ → Walked
 walk_all octets law set room =
-    judged (walk_asks law set (length octets)) (λ why. stopped (Refused why) 0 0)
+    judged (walk_asks law set (length octets)) (λ why. stopped (Err why) 0 0)
     (walk_from (suc (length octets)) octets law set 0 room)
 
 -- what is read off the list of frames

@@ -3,8 +3,9 @@
 // What each case and each answer means stands in specs/.
 #![tactic(auto)]
 
-ghost use Rattle.std.specs.Prelude.{◌≡◌};
-ghost use Rattle.rules.specs.Refusals.{refusal_number, refusal_tool, number_of, tool_named, verdict};
+ghost use Rattle.std.specs.Prelude.{◌≡◌, ℕ};
+ghost use Rattle.rules.specs.Refusals.{refusal_number, refusal_tool, numbered, tool_named, verdict};
+ghost use Rattle.rules.specs.Refusals.{refusal-not-zero};
 ghost use Rattle.rules.specs.Tools.{is_length, reader_asks, writer_asks};
 ghost use Rattle.rules.specs.Walk.{walk_asks};
 
@@ -33,62 +34,62 @@ pub enum Refusal {
     Long,
 }
 
-// "Numbered refusals": the paper's number of a refusal.
-pub fn refusal_number(why: Refusal) -> u32
-    ensures { result ≡ refusal_number why }
-{
-    match why {
-        Refusal::Short => 1,
-        Refusal::Prefix => 2,
-        Refusal::Tool(_) => 3,
-        Refusal::Room => 4,
-        Refusal::Case => 5,
-        Refusal::Method => 6,
-        Refusal::Run => 7,
-        Refusal::Place => 8,
-        Refusal::Align => 9,
-        Refusal::Length => 10,
-        Refusal::Set => 11,
-        Refusal::Law => 12,
-        Refusal::Long => 13,
+// What refuses a call has a number in the paper's list, and none has 0.
+pub trait Numbered {
+    ghost number: { Self → ℕ };
+
+    fn number(self) -> u32
+        ensures { result ≡ number self };
+
+    ghost never_zero: { (why : Self) → number why ≡ 0 → ⊥ };
+}
+
+impl Numbered for Refusal {
+    ghost number = { refusal_number };
+
+    ghost never_zero = { refusal-not-zero };
+
+    fn number(self) -> u32 {
+        match self {
+            Refusal::Short => 1,
+            Refusal::Prefix => 2,
+            Refusal::Tool(_) => 3,
+            Refusal::Room => 4,
+            Refusal::Case => 5,
+            Refusal::Method => 6,
+            Refusal::Run => 7,
+            Refusal::Place => 8,
+            Refusal::Align => 9,
+            Refusal::Length => 10,
+            Refusal::Set => 11,
+            Refusal::Law => 12,
+            Refusal::Long => 13,
+        }
     }
 }
 
-// "tool 0, save that TOOL gives the tool"
-pub fn refusal_tool(why: Refusal) -> u32
-    ensures { result ≡ refusal_tool why }
-{
-    match why {
-        Refusal::Tool(t) => t,
-        Refusal::Short => 0,
-        Refusal::Prefix => 0,
-        Refusal::Room => 0,
-        Refusal::Case => 0,
-        Refusal::Method => 0,
-        Refusal::Run => 0,
-        Refusal::Place => 0,
-        Refusal::Align => 0,
-        Refusal::Length => 0,
-        Refusal::Set => 0,
-        Refusal::Law => 0,
-        Refusal::Long => 0,
+impl Refusal {
+    // "tool 0, save that TOOL gives the tool"
+    pub fn tool(self) -> u32
+        ensures { result ≡ refusal_tool self }
+    {
+        match self {
+            Refusal::Tool(t) => t,
+            _ => 0,
+        }
     }
 }
 
-// How a call ended.
-#[derive(Clone, Copy)]
-pub enum Ending {
-    Done,
-    Refused(Refusal),
-}
+// How a call ended: accepted, or refused.
+pub type Ending = Result<(), Refusal>;
 
-// An accepted call has the number 0.
-pub fn number_of(end: Ending) -> u32
-    ensures { result ≡ number_of end }
+// An accepted call has the number 0, a refused one its refusal's, whatever it answers and by whichever refusals.
+pub fn number_of<T: Drop, W: Numbered>(end: Result<T, W>) -> u32
+    ensures { result ≡ numbered W.number end }
 {
     match end {
-        Ending::Done => 0,
-        Ending::Refused(why) => refusal_number(why),
+        Ok(_) => 0,
+        Err(why) => why.number(),
     }
 }
 
@@ -97,8 +98,8 @@ pub fn tool_of(end: Ending) -> u32
     ensures { result ≡ tool_named end }
 {
     match end {
-        Ending::Done => 0,
-        Ending::Refused(why) => refusal_tool(why),
+        Ok(()) => 0,
+        Err(why) => why.tool(),
     }
 }
 
@@ -122,58 +123,41 @@ pub fn guard(law: u32, set: u32) -> Ending
     ensures { result ≡ verdict (reader_asks law set) }
 {
     if MOST_LAW < law {
-        return Ending::Refused(Refusal::Law);
+        return Err(Refusal::Law);
     }
     if ALL_TOOLS < set {
-        return Ending::Refused(Refusal::Set);
+        return Err(Refusal::Set);
     }
-    Ending::Done
+    Ok(())
 }
 
 // "Order: LAW, SET, then .. LONG": what a walk over so many octets asks.
 pub fn guard_stream(law: u32, set: u32, octets: usize) -> Ending
     ensures { result ≡ verdict (walk_asks law set octets) }
 {
-    if MOST_LAW < law {
-        return Ending::Refused(Refusal::Law);
-    }
-    if ALL_TOOLS < set {
-        return Ending::Refused(Refusal::Set);
-    }
+    guard(law, set)?;
     if LONGEST < octets {
-        return Ending::Refused(Refusal::Long);
+        return Err(Refusal::Long);
     }
-    Ending::Done
+    Ok(())
 }
 
 // What a writer asks: "A writer's set must hold tool 1, so it is odd."
 pub fn guard_writer(law: u32, set: u32) -> Ending
     ensures { result ≡ verdict (writer_asks law set) }
 {
-    if MOST_LAW < law {
-        return Ending::Refused(Refusal::Law);
-    }
-    if ALL_TOOLS < set {
-        return Ending::Refused(Refusal::Set);
-    }
+    guard(law, set)?;
     if set % 2 == 0 {
-        return Ending::Refused(Refusal::Set);
+        return Err(Refusal::Set);
     }
-    Ending::Done
+    Ok(())
 }
 
 // The lengths of frames that have samples; another is LENGTH.
 pub fn is_length(n: usize) -> bool
     ensures { result ≡ is_length n }
 {
-    match n {
-        40 => true,
-        80 => true,
-        160 => true,
-        240 => true,
-        320 => true,
-        _ => false,
-    }
+    matches!(n, 40 | 80 | 160 | 240 | 320)
 }
 
 // Reading one frame; `bit` is the refusal's (document 02, R-7).

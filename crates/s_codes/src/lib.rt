@@ -7,6 +7,7 @@ ghost use Rattle.s_codes.specs.Codes.{TableIs, CodesAre, CodeIs, FoundIs};
 
 // The codes for a frame's length: for each S the bits of its code, and these as a number. The first entry, 00, is no code of an S.
 // And for each number of six bits the S whose code it begins with, a hexadecimal digit each, the lowest first.
+// Arrays of a fixed size, since memory is fixed; `CodesAre` says their zeros.
 #[derive(Clone, Copy)]
 pub struct Table {
     pub bits: [u8; 10],
@@ -18,8 +19,8 @@ pub struct Table {
 pub fn table_of(n: usize) -> Table
     ensures { TableIs n result }
 {
-    if n == 40 {
-        return Table {
+    match n {
+        40 => Table {
             bits: [2, 2, 2, 3, 4, 4, 0, 0, 0, 0],
             values: [0, 1, 2, 6, 14, 15, 0, 0, 0, 0],
             found: [
@@ -28,10 +29,8 @@ pub fn table_of(n: usize) -> Table
                 0x2222222222222222,
                 0x5555444433333333,
             ],
-        };
-    }
-    if n == 80 {
-        return Table {
+        },
+        80 => Table {
             bits: [2, 2, 2, 4, 4, 4, 4, 0, 0, 0],
             values: [0, 1, 2, 12, 13, 14, 15, 0, 0, 0],
             found: [
@@ -40,17 +39,17 @@ pub fn table_of(n: usize) -> Table
                 0x2222222222222222,
                 0x6666555544443333,
             ],
-        };
-    }
-    Table {
-        bits: [2, 2, 2, 4, 4, 5, 5, 5, 6, 6],
-        values: [0, 1, 2, 12, 13, 28, 29, 30, 62, 63],
-        found: [
-            0,
-            0x1111111111111111,
-            0x2222222222222222,
-            0x9877665544443333,
-        ],
+        },
+        _ => Table {
+            bits: [2, 2, 2, 4, 4, 5, 5, 5, 6, 6],
+            values: [0, 1, 2, 12, 13, 28, 29, 30, 62, 63],
+            found: [
+                0,
+                0x1111111111111111,
+                0x2222222222222222,
+                0x9877665544443333,
+            ],
+        },
     }
 }
 
@@ -58,8 +57,7 @@ pub fn table_of(n: usize) -> Table
 pub fn lengths_of(n: usize) -> [u8; 10]
     ensures { CodesAre n result }
 {
-    let t = table_of(n);
-    t.bits
+    table_of(n).bits
 }
 
 // A code: so many bits, and their number.
@@ -75,11 +73,9 @@ pub fn code_of(n: usize, s: usize) -> Code
     ensures { CodeIs n s result }
 {
     let t = table_of(n);
-    let bits = t.bits;
-    let values = t.values;
     Code {
-        bits: bits[s] as usize,
-        value: values[s] as u64,
+        bits: usize::from(t.bits[s]),
+        value: u64::from(t.values[s]),
     }
 }
 
@@ -95,24 +91,20 @@ pub fn s_in(n: usize, window: u32) -> Found
     ensures { FoundIs n window result }
 {
     let t = table_of(n);
-    let bits = t.bits;
-    let found = t.found;
     let six = (window >> 26) as usize;
-    let s = ((found[six / 16] >> (4 * (six % 16))) % 16) as usize;
+    let s = ((t.found[six / 16] >> (4 * (six % 16))) % 16) as usize;
     Found {
-        s: s,
-        bits: bits[s] as usize,
+        s,
+        bits: usize::from(t.bits[s]),
     }
 }
 
 pub fn most_s(n: usize) -> usize
     ensures { (result ≡ most_s n) × ((1 ≤ result) × (result ≤ 9)) }
 {
-    if n == 40 {
-        return 5;
+    match n {
+        40 => 5,
+        80 => 6,
+        _ => 9,
     }
-    if n == 80 {
-        return 6;
-    }
-    9
 }

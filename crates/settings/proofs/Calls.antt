@@ -9,12 +9,9 @@ use Rattle.text_lines.specs.Puts.{Puts}
 use Rattle.text_lines.proofs.Putting.{puts_then}
 use Rattle.text_keyvalue.specs.Lines.{line_of}
 use Rattle.settings.specs.declared.Settings.{Settings}
-use Rattle.settings.specs.declared.Given.{Given}
-use Rattle.settings.specs.declared.Given.TheVariants.{Is, Bad}
-use Rattle.settings.specs.declared.Kept.{Kept}
-use Rattle.settings.specs.declared.Kept.TheVariants.{Under, Nowhere}
-use Rattle.settings.specs.declared.Answer.{Answer}
-use Rattle.settings.specs.declared.Answer.TheVariants.{Done, Refused}
+use Rattle.std.specs.Prelude.{Option, Some, None}
+use Rattle.settings.specs.Answers.{Answer}
+use Rattle.std.specs.Prelude.{Ok, Err}
 use Rattle.settings.specs.declared.Refusal.TheVariants.{Line, Gone}
 use Rattle.settings.specs.Lines.{set_word, block_word, greeting_word, settings_text}
 use Rattle.settings.specs.Revisions.{Box, save_in, back_to, add_to}
@@ -29,27 +26,27 @@ four-puts s p q r t = puts_then p (puts_then q (puts_then r t))
 
 -- a save and a going back are refused, or add
 module _ (b : Box) (cells : List ℕ) where
-  pub save-line : {g : Given} → g ≡ Bad → Adds (save_in b g) cells cells (Refused Line)
+  pub save-line : {g : Option Settings} → g ≡ None → Adds (save_in b g) cells cells (Err Line)
   save-line e = record { answer = rw e; state = rw e }
 
-  pub save-adds : {g : Given} (v : Settings) {cells' : List ℕ} {r : Answer} → g ≡ Is v → Adds (add_to b v) cells cells' r
+  pub save-adds : {g : Option Settings} (v : Settings) {cells' : List ℕ} {r : Answer} → g ≡ Some v → Adds (add_to b v) cells cells' r
       → Adds (save_in b g) cells cells' r
   save-adds v e a = rw e a
 
-  pub back-gone : {k : Kept} → k ≡ Nowhere → Adds (back_to b k) cells cells (Refused Gone)
+  pub back-gone : {k : Option Settings} → k ≡ None → Adds (back_to b k) cells cells (Err Gone)
   back-gone e = record { answer = rw e; state = rw e }
 
-  pub back-adds : {k : Kept} (v : Settings) {cells' : List ℕ} {r : Answer} → k ≡ Under v → Adds (add_to b v) cells cells' r
+  pub back-adds : {k : Option Settings} (v : Settings) {cells' : List ℕ} {r : Answer} → k ≡ Some v → Adds (add_to b v) cells cells' r
       → Adds (back_to b k) cells cells' r
   back-adds v e a = rw e a
 
 -- a revision's text, or none
 module _ (text : List ℕ) where
-  pub read-gone : {k : Kept} → k ≡ Nowhere → Prints k text text (Refused Gone)
+  pub read-gone : {k : Option Settings} → k ≡ None → Prints k text text (Err Gone)
   read-gone e = record { answer = rw e; lent = rw e }
 
-  pub read-text : {k : Kept} (v : Settings) {text' : List ℕ} {n : ℕ} → k ≡ Under v → Puts text 0 (settings_text v) text' n
-      → Prints k text text' (Done n)
+  pub read-text : {k : Option Settings} (v : Settings) {text' : List ℕ} {n : ℕ} → k ≡ Some v → Puts text 0 (settings_text v) text' n
+      → Prints k text text' (Ok n)
   read-text v {text'} {n} e p =
       let l : n ≡ length (settings_text v) = p.place ∙ omega arith in
       record {

@@ -9,47 +9,44 @@ use borrow.Author.Tests.{le-leb, lt-leb, leb-true}
 use Rattle.rules.specs.Tools.{most_law, all_tools}
 use Rattle.rules.specs.Listing.{law_word}
 use Rattle.settings.specs.declared.Settings.{Settings}
-use Rattle.settings.specs.declared.Given.TheVariants.{Is, Bad}
-use Rattle.text_keyvalue.specs.declared.Told.{Told}
-use Rattle.text_keyvalue.specs.declared.Told.TheVariants.{Got, Not}
-use Rattle.text_keyvalue.specs.Reading.{Read, whole, none, as_read}
+use Rattle.std.specs.Prelude.{Some, None}
+use Rattle.text_keyvalue.specs.Reading.{Read, whole, none}
 use Rattle.text_keyvalue.specs.Lines.{ranged}
 use Rattle.settings.specs.Lines.{set_word, block_word, greeting_word, most_block, most_greeting}
 use Rattle.settings.specs.Lines.{four_lines, settings, settings_text, given, settings_in}
-use Rattle.text_keyvalue.proofs.Numbers.{told}
 use Rattle.text_keyvalue.proofs.Exact.{Back, back-bind, back_last, back_alone, back-ranged, Stands, chain, stands-alone, got-value}
 use Rattle.text_keyvalue.proofs.Exact.{got-place}
 use Rattle.text_keyvalue.proofs.Exact.{ranged-only, through, passed}
 
--- what each call of keyvalue told is taken apart once: the line is there, or the text is bad
+-- line after line, as the code reads them: a line is there, or the text is no settings
 module _ (text : List ℕ) where
-  pub no-law : {t : Told} → t ≡ Not → as_read t ≡ ranged law_word 0 most_law text 0 → Bad ≡ settings_in text
+  pub no-law : none ≡ ranged law_word 0 most_law text 0 → None ≡ settings_in text
   unfolding settings four_lines
-  no-law m e = sym (rw (← told m e))
+  no-law e = sym (rw (← e))
 
-  module _ {t : Told} {law a : ℕ} (m : t ≡ Got law a) (e : as_read t ≡ ranged law_word 0 most_law text 0) where
-    pub no-set : {u : Told} → u ≡ Not → as_read u ≡ ranged set_word 0 all_tools text a → Bad ≡ settings_in text
+  module _ {law a : ℕ} (e : whole law a ≡ ranged law_word 0 most_law text 0) where
+    pub no-set : none ≡ ranged set_word 0 all_tools text a → None ≡ settings_in text
     unfolding settings four_lines
-    no-set n f = sym (rw (← told m e, ← told n f))
+    no-set f = sym (rw (← e, ← f))
 
-    module _ {u : Told} {set b : ℕ} (n : u ≡ Got set b) (f : as_read u ≡ ranged set_word 0 all_tools text a) where
-      pub no_block : {v : Told} → v ≡ Not → as_read v ≡ ranged block_word 1 most_block text b → Bad ≡ settings_in text
+    module _ {set b : ℕ} (f : whole set b ≡ ranged set_word 0 all_tools text a) where
+      pub no_block : none ≡ ranged block_word 1 most_block text b → None ≡ settings_in text
       unfolding settings four_lines
-      no_block o g = sym (rw (← told m e, ← told n f, ← told o g))
+      no_block g = sym (rw (← e, ← f, ← g))
 
-      module _ {v : Told} {block c : ℕ} (o : v ≡ Got block c) (g : as_read v ≡ ranged block_word 1 most_block text b) where
-        pub no-greeting : {w : Told} → w ≡ Not → as_read w ≡ ranged greeting_word 0 most_greeting text c → Bad ≡ settings_in text
+      module _ {block c : ℕ} (g : whole block c ≡ ranged block_word 1 most_block text b) where
+        pub no-greeting : none ≡ ranged greeting_word 0 most_greeting text c → None ≡ settings_in text
         unfolding settings four_lines
-        no-greeting p h = sym (rw (← told m e, ← told n f, ← told o g, ← told p h))
+        no-greeting h = sym (rw (← e, ← f, ← g, ← h))
 
-        module _ {w : Told} {greeting d : ℕ} (p : w ≡ Got greeting d) (h : as_read w ≡ ranged greeting_word 0 most_greeting text c) where
-          pub more-after : d < length text → Bad ≡ settings_in text
+        module _ {greeting d : ℕ} (h : whole greeting d ≡ ranged greeting_word 0 most_greeting text c) where
+          pub more-after : d < length text → None ≡ settings_in text
           unfolding settings four_lines
-          more-after l = sym (rw (← told m e, ← told n f, ← told o g, ← told p h, lt-leb (length text) d l))
+          more-after l = sym (rw (← e, ← f, ← g, ← h, lt-leb (length text) d l))
 
-          pub all_read : length text ≤ d → Is (record { law = law; set = set; block = block; greeting = greeting }) ≡ settings_in text
+          pub all_read : length text ≤ d → Some (record { law = law; set = set; block = block; greeting = greeting }) ≡ settings_in text
           unfolding settings four_lines
-          all_read l = sym (rw (← told m e, ← told n f, ← told o g, ← told p h, le-leb (length text) d l))
+          all_read l = sym (rw (← e, ← f, ← g, ← h, le-leb (length text) d l))
 
 -- the values that a box takes
 pub record Sound (s : Settings) : Type 0 where
@@ -70,11 +67,11 @@ four-back s h =
     (back-ranged greeting_word 0 most_greeting s.greeting (omega arith) (omega arith) h.greeting))))
 
 -- what is written is read back
-pub settings-back : (s : Settings) → Sound s → settings_in (settings_text s) ≡ Is s
+pub settings-back : (s : Settings) → Sound s → settings_in (settings_text s) ≡ Some s
 unfolding settings
 settings-back s h = ap given (back_alone four_lines (four-back s h))
 
-given_is : (r : Read Settings) (s : Settings) → given r ≡ Is s → (i : ℕ) × (r ≡ whole s i)
+given_is : (r : Read Settings) (s : Settings) → given r ≡ Some s → (i : ℕ) × (r ≡ whole s i)
 given_is (whole t i) s e = (i, let z : t ≡ s = cc in ap (λ (u : Settings). whole u i) z)
 given_is none s e = let z : ◌≡◌ {A = ℕ} 0 1 = cc in absurd (omega arith)
 
@@ -101,7 +98,7 @@ four-only text s i j e =
       chain p.says (chain q.says (chain r.says t.says)),
     )
 
-pub settings-only : (text : List ℕ) (s : Settings) → settings_in text ≡ Is s → (Sound s) × (text ≡ settings_text s)
+pub settings-only : (text : List ℕ) (s : Settings) → settings_in text ≡ Some s → (Sound s) × (text ≡ settings_text s)
 unfolding settings
 settings-only text s e =
     let g = given_is (settings text 0) s e in

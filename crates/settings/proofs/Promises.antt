@@ -14,11 +14,8 @@ use lib.Seq.{drop_at, get_or-drop, drop-drop, drop-append-le}
 use lib.Dec.{ltb}
 use borrow.Author.Tests.{eq-eqb, ne_eqb}
 use Rattle.settings.specs.declared.Settings.{Settings}
-use Rattle.settings.specs.declared.Given.{Given}
-use Rattle.settings.specs.declared.Given.TheVariants.{Is, Bad}
+use Rattle.std.specs.Prelude.{Option, Some, None}
 use Rattle.settings.specs.declared.Revision.{Revision}
-use Rattle.settings.specs.declared.Kept.{Kept}
-use Rattle.settings.specs.declared.Kept.TheVariants.{Under, Nowhere}
 use Rattle.settings.specs.Lines.{settings_in, settings_text}
 use Rattle.settings.specs.declared.Refusal.TheVariants.{Spent}
 use Rattle.settings.specs.Revisions.{Box, Outcome, done, refused, last_eight, added, add_to, most_number, look_up, back_to, wiped}
@@ -59,7 +56,7 @@ counted-kept {k} h (more {r = r} e c) = rw (ne_eqb r.number 0 (λ z. omega arith
 
 -- the newest is found under its number
 counted-found : {k : ℕ} {rs : List Revision} → Counted k rs → (v : Settings)
-    → look_up (k + length rs) (rs ++ (record { number = k + length rs; values = v } ∷ [])) ≡ Under v
+    → look_up (k + length rs) (rs ++ (record { number = k + length rs; values = v } ∷ [])) ≡ Some v
 unfolding look_up
 counted-found {k} none v = rw (eq-eqb (k + 0) (k + 0) refl)
 counted-found {k} (more {r = r} {rs = rs} e c) v =
@@ -213,10 +210,10 @@ module _ {s : Seen} (t : KeptTrue s) where
       }
 
   -- values that are wanted are added, or the number is spent
-  added_true : (k : Kept) (x : Seen) → x.cells ≡ cells_after (back_to (box_of s.cells) k) s.cells
+  added_true : (k : Option Settings) (x : Seen) → x.cells ≡ cells_after (back_to (box_of s.cells) k) s.cells
       → x.all ≡ s.all ++ new_of (box_of s.cells) k → x.since ≡ s.since ++ new_of (box_of s.cells) k → KeptTrue x
-  added_true Nowhere x c a n = same_true x c a n
-  added_true (Under v) x c a n = go (ltb most_number ((box_of s.cells).last + 1)) refl c a n
+  added_true None x c a n = same_true x c a n
+  added_true (Some v) x c a n = go (ltb most_number ((box_of s.cells).last + 1)) refl c a n
     where
       go : (z : Bool) → ltb most_number ((box_of s.cells).last + 1) ≡ z → x.cells ≡ cells_after (add_to (box_of s.cells) v) s.cells
           → x.all ≡ s.all ++ cond z [] (record { number = (box_of s.cells).last + 1; values = v } ∷ [])
@@ -228,7 +225,7 @@ module _ {s : Seen} (t : KeptTrue s) where
           (n ∙ ap (λ (l : ℕ). s.since ++ (record { number = l + 1; values = v } ∷ [])) (ap last box-true))
 
   -- what is added is found under its number
-  found-true : (v : Settings) → look_up (length s.all + 1) (last_eight (last_eight s.since ++ (new v ∷ []))) ≡ Under v
+  found-true : (v : Settings) → look_up (length s.all + 1) (last_eight (last_eight s.since ++ (new v ∷ []))) ≡ Some v
   found-true v =
       let e = last_eight s.since in
       let l = length-append e (new v ∷ []) in
@@ -245,9 +242,9 @@ module _ {s : Seen} (t : KeptTrue s) where
 call-true : {s : Seen} → KeptTrue s → (c : Call) → KeptTrue (see c s)
 call-true {s} t (saving text) = go (settings_in text) refl
   where
-    go : (g : Given) → settings_in text ≡ g → KeptTrue (see (saving text) s)
-    go (Is v) e = added_true t (Under v) _ (rw e) (rw e) (rw e)
-    go Bad e = added_true t Nowhere _ (rw e) (rw e) (rw e)
+    go : (g : Option Settings) → settings_in text ≡ g → KeptTrue (see (saving text) s)
+    go (Some v) e = added_true t (Some v) _ (rw e) (rw e) (rw e)
+    go None e = added_true t None _ (rw e) (rw e) (rw e)
 call-true {s} t (going_back n) = added_true t (look_up n (box_of s.cells).revisions) _ refl refl refl
 call-true {s} t wiping =
     let n = append-nil s.all in
@@ -279,13 +276,13 @@ eight-kept cs = rw (newest-kept cs) (eight-few (see_all cs fresh).since)
 
 -- What is saved next is read under its new number.
 pub saved-reads : (cs : List Call) (v : Settings)
-    → look_up ((box_of (see_all cs fresh).cells).last + 1) (added (box_of (see_all cs fresh).cells) v).revisions ≡ Under v
+    → look_up ((box_of (see_all cs fresh).cells).last + 1) (added (box_of (see_all cs fresh).cells) v).revisions ≡ Some v
 unfolding added
 saved-reads cs v =
     ap (λ (b : Box). look_up (b.last + 1) (added b v).revisions) (box-true (kept-true cs)) ∙ found-true (kept-true cs) v
 
 -- The text that is saved is the text that is read.
-pub text-back : (text : List ℕ) (v : Settings) → settings_in text ≡ Is v → settings_text v ≡ text
+pub text-back : (text : List ℕ) (v : Settings) → settings_in text ≡ Some v → settings_text v ≡ text
 text-back text v e = sym (settings-only text v e).1
 
 -- After a wipe nothing of the last tenant is left: every number of the revisions is 0.

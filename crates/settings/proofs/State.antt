@@ -5,8 +5,9 @@ use mathlib.Core.Path.{◌≡◌, refl, sym, ap, ◌∙◌}
 use mathlib.Core.List.{List, [], ◌∷◌, ◌++◌, append_assoc, append-nil}
 use mathlib.Core.Bool.{Bool, true, false, cond}
 use native.Mathlib.Omega.{arith}
-use lib.ListN.{length, get_or, take, drop, set, replicate, length-append, length-replicate, length-drop, take-append-drop}
-use lib.Seq.{paste, paste-zero, paste-suc, get_or-drop, sets-eq, drop-nil, take_at, drop-append-add, take-append-add, drop-append-le}
+use lib.ListN.{length, get_or, take, drop, set, replicate, length-append, length-replicate, length-drop, length-take, drop_of_length-le, take-append-drop}
+use lib.Seq.{sets-eq, drop-nil, take_at, drop-append-add, take-append-add, drop-append-le}
+use borrow.Rule.Slice.PartMut.{put_mid}
 use lib.Dec.{eqb}
 use borrow.Author.Tests.{eq-eqb, ne_eqb}
 use Rattle.settings.specs.declared.Settings.{Settings}
@@ -193,46 +194,22 @@ module _ {revisions : List Revision} {rows rows' : List ℕ} {k : ℕ} (new : Re
       ∙ ap (λ (l : List ℕ). cells_of (last_eight all) ++ l)
       (zeros-take (40 - 5 * length (last_eight all)) (40 - 5 * k) (omega (arith, all-length)))
 
--- the rows that stay, copied behind the number
-pub record Copying (rows first next : List ℕ) (from i : ℕ) : Type 0 where
-  pub most : i ≤ 40
-  pub near : from ≤ 5
-  pub size : length rows ≡ 45
-  pub whole : length first ≡ 41
-  pub says : next ≡ paste first 1 (drop from rows) i
-
-pub copying-start : {rows first : List ℕ} {from k : ℕ} → length rows ≡ 45 → length first ≡ 41 → k ≤ 8 → from ≡ 5 * (k + 1 - 8)
-    → Copying rows first first from 0
-copying-start {rows} {first} {from} s w f e =
-    record { most = omega arith; near = omega arith; size = s; whole = w; says = paste-zero first 1 (drop from rows) }
-
-pub copying-turn : {rows first next : List ℕ} {from i : ℕ} → Copying rows first next from i → i < 40
-    → Copying rows first (set next (i + 1) (get_or rows (from + i) 0)) from (i + 1)
-copying-turn {rows} {first} {next} {from} {i} c h =
-    let n = length-drop from rows in
-    let a : i + 1 ≡ 1 + i = omega arith in
-    let b : i + 1 ≡ suc i = omega arith in
-    record {
-      most = omega arith;
-      near = c.near;
-      size = c.size;
-      whole = c.whole;
-      says =
-          ap (λ (l : List ℕ). set l (i + 1) (get_or rows (from + i) 0)) c.says
-          ∙ ap (λ (j : ℕ). set (paste first 1 (drop from rows) i) j (get_or rows (from + i) 0)) a
-          ∙ ap (λ (x : ℕ). set (paste first 1 (drop from rows) i) (1 + i) x) (sym (get_or-drop from rows i 0))
-          ∙ paste-suc first 1 (drop from rows) i 0 (omega (arith, c.whole)) (omega (arith, c.size, c.near))
-          ∙ ap (λ (j : ℕ). paste first 1 (drop from rows) j) (sym b);
-    }
-
--- the numbers once values are added
-pub laid-added : (cells : List ℕ) (v : Settings) {rows rows' next : List ℕ} {k from i : ℕ} → Gathers (box_of cells).revisions rows k
+-- the numbers once values are added: the last number, and the rows that stay
+pub laid-added : (cells : List ℕ) (v : Settings) {rows rows' kept : List ℕ} {k from : ℕ} → Gathers (box_of cells).revisions rows k
     → rows' ≡ take (5 * k) rows ++ (cells_of (record { number = get_or cells 0 0 + 1; values = v } ∷ []) ++ drop (5 * k + 5) rows)
-    → from ≡ 5 * (k + 1 - 8) → Copying rows' (set (replicate 41 0) 0 (get_or cells 0 0 + 1)) next from i → 40 ≤ i
-    → next ≡ laid (added (box_of cells) v)
+    → from ≡ 5 * (k + 1 - 8) → kept ≡ take (from + 40 - from) (drop from rows')
+    → ◌≡◌ {A = List ℕ} ((get_or cells 0 0 + 1) ∷ (kept ++ [])) (laid (added (box_of cells) v))
 unfolding added
-laid-added cells v {rows} {rows'} {next} {k} {from} {i} g p e c h =
-    let n : i ≡ 40 = omega (arith, c.most) in
+laid-added cells v {rows} {rows'} {kept} {k} {from} g p e c =
+    let n : from + 40 - from ≡ 40 = omega arith in
     let s = eight-stay (record { number = get_or cells 0 0 + 1; values = v }) g p e in
-    c.says ∙ ap (λ (j : ℕ). paste (set (replicate 41 0) 0 (get_or cells 0 0 + 1)) 1 (drop from rows') j) n
-    ∙ append-nil ((get_or cells 0 0 + 1) ∷ take 40 (drop from rows')) ∙ ap (λ (l : List ℕ). (get_or cells 0 0 + 1) ∷ l) s
+    ap (λ (l : List ℕ). (get_or cells 0 0 + 1) ∷ l) (append-nil kept ∙ c ∙ ap (λ (j : ℕ). take j (drop from rows')) n ∙ s)
+
+-- the numbers after a wipe
+pub laid-wiped : (cells zeros : List ℕ) → length cells ≡ 41 → zeros ≡ replicate (length (take 40 (drop 1 cells))) 0
+    → put_mid 1 40 cells zeros ≡ get_or cells 0 0 ∷ replicate 40 0
+laid-wiped [] zeros h e = absurd (omega (arith, h))
+laid-wiped (x ∷ cells) zeros h e =
+    let n : length (take 40 cells) ≡ 40 = omega (arith, length-take 40 cells, h) in
+    let past : drop 40 cells ≡ [] = drop_of_length-le cells {i = 40} (omega (arith, h)) in
+    rw (e, n, past) refl

@@ -1,21 +1,21 @@
--- What the settings tell: the numbers told are those of the rows that a save gathers (`kept-told`, `eight-told`); a number among them
+-- What the settings tell: the numbers told are those of the rows that a save gathers (`kept-told`, `kept-turn`, `kept-whole`); a number among them
 -- that is not 0 is one that a get answers, and no other is (`kept-got`, `got_kept`); what a get tells is what the text of that revision
 -- says (`got-text`). No second answer fits (`only-get`, `only_kept`).
-use Prim.Native.Nat.{ℕ, zero, suc, ◌+◌, ◌*◌, ◌-◌, ◌≤◌}
+use Prim.Native.Nat.{ℕ, zero, suc, ◌+◌, ◌*◌, ◌-◌, ◌≤◌, ◌<◌}
 use mathlib.Core.Path.{◌≡◌, refl, sym, ap, ◌∙◌}
-use mathlib.Core.List.{List, [], ◌∷◌, ◌++◌}
+use mathlib.Core.List.{List, [], ◌∷◌, ◌++◌, append-nil}
+use native.Mathlib.Nat.{zero-add}
+use native.Mathlib.Numerals.{add-one}
 use mathlib.Core.Bool.{Bool, true, false, cond}
 use mathlib.Core.Logic.{◌⊎◌, inl, inr}
 use native.Mathlib.Omega.{arith}
-use lib.ListN.{length, get_or, drop, replicate}
-use lib.Seq.{drop-drop}
+use lib.ListN.{length, get_or, take, drop, set, replicate, drop_of_length-le}
+use lib.Seq.{drop-drop, take_all, paste, paste-suc}
 use lib.Dec.{eqb}
 use borrow.Author.Tests.{eq-eqb, eqb-true}
 use Rattle.settings.specs.declared.Settings.{Settings}
 use Rattle.settings.specs.declared.Revision.{Revision}
-use Rattle.settings.specs.declared.Given.TheVariants.{Is}
-use Rattle.settings.specs.declared.Kept.{Kept}
-use Rattle.settings.specs.declared.Kept.TheVariants.{Under, Nowhere}
+use Rattle.std.specs.Prelude.{Option, Some, None}
 use Rattle.settings.specs.Lines.{settings_in}
 use Rattle.settings.specs.Revisions.{look_up}
 use Rattle.settings.specs.State.{rows_at, box_of, cells_of}
@@ -64,12 +64,32 @@ kept-told cells {rows} {n} g =
     fifths-are 8 0 (45 - 5 * n) rs rows z (omega (arith, g.count, g.few)) (omega (arith, g.count, g.few))
 
 -- and one by one, as the call tells them
-pub eight-told : (cells : List ℕ) {rows : List ℕ} {n a b c d e f g h : ℕ} → Gathers (box_of cells).revisions rows n
-    → a ≡ get_or rows (5 * 0) 0 → b ≡ get_or rows (5 * 1) 0 → c ≡ get_or rows (5 * 2) 0 → d ≡ get_or rows (5 * 3) 0 → e ≡ get_or rows (5 * 4) 0
-    → f ≡ get_or rows (5 * 5) 0 → g ≡ get_or rows (5 * 6) 0 → h ≡ get_or rows (5 * 7) 0
-    → ◌≡◌ {A = List ℕ} (a ∷ b ∷ c ∷ d ∷ e ∷ f ∷ g ∷ h ∷ []) (numbers_kept cells)
+fifth-at : (n k i : ℕ) (rows : List ℕ) → i < n → get_or (fifths n k rows) i 0 ≡ get_or rows (5 * (k + i)) 0
 unfolding fifths
-eight-told cells o a b c d e f g h = rw (a, b, c, d, e, f, g, h) (kept-told cells o)
+fifth-at zero k i rows h = absurd (omega arith)
+fifth-at (suc n) k zero rows h = let z : k + 0 ≡ k = omega arith in rw z refl
+fifth-at (suc n) k (suc i) rows h = let z : k + suc i ≡ k + 1 + i = omega arith in rw z (fifth-at n (k + 1) i rows (omega arith))
+
+eight-long : (rows : List ℕ) → length (fifths 8 0 rows) ≡ 8
+unfolding fifths
+eight-long rows = refl
+
+pub kept-turn : (rows first : List ℕ) (k v : ℕ) → length first ≡ 8 → k < 8 → v ≡ get_or rows (5 * k) 0
+    → set (paste first 0 (fifths 8 0 rows) k) k v ≡ paste first 0 (fifths 8 0 rows) (k + 1)
+kept-turn rows first k v l h e =
+    let z = fifths 8 0 rows in
+    let n = eight-long rows in
+    let at : get_or z k 0 ≡ get_or rows (5 * k) 0 = fifth-at 8 0 k rows h ∙ ap (λ (j : ℕ). get_or rows (5 * j) 0) (zero-add k) in
+    ap (λ (j : ℕ). set (paste first 0 z k) j v) (sym (zero-add k)) ∙ ap (set (paste first 0 z k) (0 + k)) (e ∙ sym at)
+    ∙ paste-suc first 0 z k 0 (omega (arith, l)) (omega (arith, n)) ∙ ap (paste first 0 z) (sym (add-one k))
+
+pub kept-whole : (cells first : List ℕ) {rows : List ℕ} {n k : ℕ} → Gathers (box_of cells).revisions rows n → length first ≡ 8 → k ≡ 8
+    → paste first 0 (fifths 8 0 rows) k ≡ numbers_kept cells
+kept-whole cells first {rows} {n} {k} g l e =
+    let z = fifths 8 0 rows in
+    let past : drop (0 + k) first ≡ [] = drop_of_length-le first {i = 0 + k} (omega (arith, l)) in
+    let all : take k z ≡ z = take_all k z (omega (arith, eight-long rows)) in
+    rw (past, all, append-nil) (kept-told cells g)
 
 -- a number stands among these
 unfoldable pub Among : ℕ → List ℕ → Type 0
@@ -90,7 +110,7 @@ module _ (n : ℕ) (some : 1 ≤ n) where
   among-got (r ∷ rs) m (inl e) = rw (eq-eqb r.number n e)
   among-got (r ∷ rs) m (inr a) = go (eqb r.number n) (among-got rs m a)
     where
-      go : (t : Bool) → get_number_of (look_up n rs) ≡ 0 → get_number_of (cond t (Under r.values) (look_up n rs)) ≡ 0
+      go : (t : Bool) → get_number_of (look_up n rs) ≡ 0 → get_number_of (cond t (Some r.values) (look_up n rs)) ≡ 0
       go true e = refl
       go false e = e
 
@@ -104,7 +124,7 @@ got-among n [] l e = let z : ◌≡◌ {A = ℕ} 24 0 = e in absurd (omega arith
 got-among n (r ∷ rs) l e = go (eqb r.number n) refl (got-among n rs l) e
   where
     go : (t : Bool) → eqb r.number n ≡ t → (get_number_of (look_up n rs) ≡ 0 → Among n (numbers_of rs ++ l))
-        → get_number_of (cond t (Under r.values) (look_up n rs)) ≡ 0 → (r.number ≡ n) ⊎ Among n (numbers_of rs ++ l)
+        → get_number_of (cond t (Some r.values) (look_up n rs)) ≡ 0 → (r.number ≡ n) ⊎ Among n (numbers_of rs ++ l)
     go true e more f = inl (eqb-true r.number n e)
     go false e more f = inr (more f)
 
@@ -122,18 +142,18 @@ got_kept cells (suc n) e =
 -- What a get tells is what the revision's text says: the text that a read gives, read as settings, is the values told, where a text can
 -- say them at all; so after saving a text a get tells that text's values.
 pub got-text : (cells : List ℕ) (n : ℕ) → get_number_of (get_of cells n) ≡ 0 → Sound (values_in (get_of cells n))
-    → settings_in (text_of (get_of cells n)) ≡ Is (values_in (get_of cells n))
+    → settings_in (text_of (get_of cells n)) ≡ Some (values_in (get_of cells n))
 got-text cells n e s = go (get_of cells n) e s
   where
-    go : (k : Kept) → get_number_of k ≡ 0 → Sound (values_in k) → settings_in (text_of k) ≡ Is (values_in k)
-    go (Under v) e s = settings-back v s
-    go Nowhere e s = let z : ◌≡◌ {A = ℕ} 24 0 = e in absurd (omega arith)
+    go : (k : Option Settings) → get_number_of k ≡ 0 → Sound (values_in k) → settings_in (text_of k) ≡ Some (values_in k)
+    go (Some v) e s = settings-back v s
+    go None e s = let z : ◌≡◌ {A = ℕ} 24 0 = e in absurd (omega arith)
 
-pub saved-sound : (text : List ℕ) (v : Settings) → settings_in text ≡ Is v → Sound v
+pub saved-sound : (text : List ℕ) (v : Settings) → settings_in text ≡ Some v → Sound v
 saved-sound text v e = (settings-only text v e).0
 
 -- no second answer fits
-pub only-get : (cells : List ℕ) (n : ℕ) {r s : Kept} → r ≡ get_of cells n → s ≡ get_of cells n → r ≡ s
+pub only-get : (cells : List ℕ) (n : ℕ) {r s : Option Settings} → r ≡ get_of cells n → s ≡ get_of cells n → r ≡ s
 only-get cells n p q = p ∙ sym q
 
 pub only_kept : (cells : List ℕ) {r s : List ℕ} → r ≡ numbers_kept cells → s ≡ numbers_kept cells → r ≡ s

@@ -7,6 +7,7 @@ pub mod Lines
 pub mod Revisions
 pub mod State
 pub mod Gathers
+pub mod Answers
 pub mod Calls
 pub mod Told
 pub mod Tells

@@ -6,8 +6,7 @@ use Rattle.rules.specs.Listing.{law_word}
 use Rattle.text_keyvalue.specs.Reading.{Read, whole, none, Reader, ◌>>=◌, give, ended}
 use Rattle.text_keyvalue.specs.Lines.{line_of, ranged}
 use Rattle.settings.specs.declared.Settings.{Settings}
-use Rattle.settings.specs.declared.Given.{Given}
-use Rattle.settings.specs.declared.Given.TheVariants.{Is, Bad}
+use Rattle.std.specs.Prelude.{Option, Some, None}
 
 -- "set=", "block=", "greeting="
 abbrev pub set_word : List ℕ
@@ -38,12 +37,12 @@ four_lines = do
 unfoldable pub settings : Reader Settings
 settings = four_lines >>= ended
 
-abbrev pub given : Read Settings → Given
-given (whole s i) = Is s
-given none = Bad
+abbrev pub given : Read Settings → Option Settings
+given (whole s i) = Some s
+given none = None
 
 -- the settings that a text is, or "text not of this form or a value out of its range"
-abbrev pub settings_in : List ℕ → Given
+abbrev pub settings_in : List ℕ → Option Settings
 settings_in text = given (settings text 0)
 
 unfoldable pub settings_text : Settings → List ℕ

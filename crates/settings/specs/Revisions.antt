@@ -1,11 +1,8 @@
 -- Document 02, R-13: "Each box keeps its last eight settings"; revisions, going back, and the wipe.
 use Rattle.std.specs.Prelude.{ℕ, ◌+◌, ◌-◌, List, [], ◌∷◌, ◌++◌, cond, length, drop, eqb, ltb}
 use Rattle.settings.specs.declared.Settings.{Settings}
-use Rattle.settings.specs.declared.Given.{Given}
-use Rattle.settings.specs.declared.Given.TheVariants.{Is, Bad}
+use Rattle.std.specs.Prelude.{Option, Some, None}
 use Rattle.settings.specs.declared.Revision.{Revision}
-use Rattle.settings.specs.declared.Kept.{Kept}
-use Rattle.settings.specs.declared.Kept.TheVariants.{Under, Nowhere}
 use Rattle.settings.specs.declared.Refusal.{Refusal}
 use Rattle.settings.specs.declared.Refusal.TheVariants.{Line, Gone, Spent}
 
@@ -35,19 +32,19 @@ unfoldable pub add_to : Box → Settings → Outcome
 add_to b v = cond (ltb most_number (b.last + 1)) (refused Spent) (done (added b v))
 
 -- "LINE for text not of this form or a value out of its range"
-abbrev pub save_in : Box → Given → Outcome
-save_in b (Is v) = add_to b v
-save_in b Bad = refused Line
+abbrev pub save_in : Box → Option Settings → Outcome
+save_in b (Some v) = add_to b v
+save_in b None = refused Line
 
 -- the values kept under a number; of two with one number the first is meant
-unfoldable pub look_up : ℕ → List Revision → Kept
-look_up n [] = Nowhere
-look_up n (r ∷ rs) = cond (eqb r.number n) (Under r.values) (look_up n rs)
+unfoldable pub look_up : ℕ → List Revision → Option Settings
+look_up n [] = None
+look_up n (r ∷ rs) = cond (eqb r.number n) (Some r.values) (look_up n rs)
 
 -- "Going back to a kept revision saves its values under a new number"; "GONE for a revision not kept"
-abbrev pub back_to : Box → Kept → Outcome
-back_to b (Under v) = add_to b v
-back_to b Nowhere = refused Gone
+abbrev pub back_to : Box → Option Settings → Outcome
+back_to b (Some v) = add_to b v
+back_to b None = refused Gone
 
 -- "A wipe for the next tenant empties the list and leaves the numbering running."
 abbrev pub wiped : Box → Box

@@ -1,10 +1,8 @@
 -- A list of calls from a fresh state, and what was saved: "After any calls each kept revision is what was saved under its number."
 use Rattle.std.specs.Prelude.{ℕ, ◌+◌, List, [], ◌∷◌, ◌++◌, cond, replicate, ltb}
-use Rattle.settings.specs.declared.Given.{Given}
-use Rattle.settings.specs.declared.Given.TheVariants.{Is, Bad}
+use Rattle.settings.specs.declared.Settings.{Settings}
+use Rattle.std.specs.Prelude.{Option, Some, None}
 use Rattle.settings.specs.declared.Revision.{Revision}
-use Rattle.settings.specs.declared.Kept.{Kept}
-use Rattle.settings.specs.declared.Kept.TheVariants.{Under, Nowhere}
 use Rattle.settings.specs.Lines.{settings_in}
 use Rattle.settings.specs.Revisions.{Box, most_number, save_in, look_up, back_to, wiped}
 use Rattle.settings.specs.State.{box_of, laid}
@@ -23,19 +21,15 @@ cells_on (going_back n) cells = cells_after (back_to (box_of cells) (look_up n (
 cells_on wiping cells = laid (wiped (box_of cells))
 
 -- the values that a call saves, if it does
-abbrev pub values_given : Given → Kept
-values_given (Is v) = Under v
-values_given Bad = Nowhere
-
-abbrev pub wanted : Call → List ℕ → Kept
-wanted (saving text) cells = values_given (settings_in text)
+abbrev pub wanted : Call → List ℕ → Option Settings
+wanted (saving text) cells = settings_in text
 wanted (going_back n) cells = look_up n (box_of cells).revisions
-wanted wiping cells = Nowhere
+wanted wiping cells = None
 
 -- and the revision that it adds, if the number does not pass
-abbrev pub new_of : Box → Kept → List Revision
-new_of b (Under v) = cond (ltb most_number (b.last + 1)) [] (record { number = b.last + 1; values = v } ∷ [])
-new_of b Nowhere = []
+abbrev pub new_of : Box → Option Settings → List Revision
+new_of b (Some v) = cond (ltb most_number (b.last + 1)) [] (record { number = b.last + 1; values = v } ∷ [])
+new_of b None = []
 
 -- the numbers now, all revisions that were ever saved, and those saved since the last wipe
 pub record Seen : Type 0 where

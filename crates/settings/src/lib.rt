@@ -8,10 +8,9 @@ ghost use Rattle.settings.specs.Lines.{settings_in, settings_text};
 ghost use Rattle.settings.specs.Revisions.{added, add_to, look_up, most_number};
 ghost use Rattle.settings.specs.State.{values_at, row_at, box_of, cells_of, laid};
 ghost use Rattle.settings.specs.Gathers.{KeepsRow, Gathers};
-ghost use Rattle.settings.specs.Calls.{refusal_number, number_of, told_of, Adds, Save, Back, Read, Wipe};
+ghost use Rattle.settings.specs.Calls.{refusal_number, settings-not-zero, Adds, Save, Back, Read, Wipe};
 
-use rules::{ALL_TOOLS, MOST_LAW};
-use text_keyvalue::Told;
+use rules::{ALL_TOOLS, MOST_LAW, Numbered};
 
 pub mod tells;
 
@@ -28,25 +27,11 @@ pub struct Settings {
     pub greeting: u32,
 }
 
-// The settings that a text is, or none.
-#[derive(Drop)]
-pub enum Given {
-    Is(Settings),
-    Bad,
-}
-
 // Settings under the number they were saved with.
 #[derive(Drop)]
 pub struct Revision {
     pub number: u32,
     pub values: Settings,
-}
-
-// The values under a number, or that none are kept under it.
-#[derive(Clone, Copy)]
-pub enum Kept {
-    Under(Settings),
-    Nowhere,
 }
 
 // LINE (23), GONE (24), SPENT (25).
@@ -57,77 +42,40 @@ pub enum Refusal {
     Spent,
 }
 
+impl Numbered for Refusal {
+    ghost number = { refusal_number };
+
+    ghost never_zero = { settings-not-zero };
+
+    fn number(self) -> u32 {
+        match self {
+            Refusal::Line => 23,
+            Refusal::Gone => 24,
+            Refusal::Spent => 25,
+        }
+    }
+}
+
 // The new revision's number, or the octets of a text; or the refusal.
-#[derive(Clone, Copy)]
-pub enum Answer {
-    Done(u32),
-    Refused(Refusal),
-}
-
-pub fn refusal_number(why: Refusal) -> u32
-    ensures { result ≡ refusal_number why }
-{
-    match why {
-        Refusal::Line => 23,
-        Refusal::Gone => 24,
-        Refusal::Spent => 25,
-    }
-}
-
-// An accepted call has the number 0.
-pub fn number_of(a: Answer) -> u32
-    ensures { result ≡ number_of a }
-{
-    match a {
-        Answer::Done(_) => 0,
-        Answer::Refused(why) => refusal_number(why),
-    }
-}
-
-// What an accepted call tells; a refused one reports 0.
-pub fn told_of(a: Answer) -> u32
-    ensures { result ≡ told_of a }
-{
-    match a {
-        Answer::Done(n) => n,
-        Answer::Refused(_) => 0,
-    }
-}
+pub type Answer = Result<u32, Refusal>;
 
 // "`law` (0 or 1), `set` (0 to 127), `block` (1 to 1,048,576), `greeting` (0 to 65,535) .., one line each in that order".
-pub fn settings_in(text: &[u8]) -> Given
+pub fn settings_in(text: &[u8]) -> Option<Settings>
     ensures { result ≡ settings_in text.now }
 {
-    match text_keyvalue::ranged_line(text, 0, b"law=", 0, MOST_LAW) {
-        Told::Not => Given::Bad,
-        Told::Got(law, a) => match text_keyvalue::ranged_line(text, a, b"set=", 0, ALL_TOOLS) {
-            Told::Not => Given::Bad,
-            Told::Got(set, b) => match text_keyvalue::ranged_line(
-                text, b, b"block=", 1, MOST_BLOCK,
-            ) {
-                Told::Not => Given::Bad,
-                Told::Got(block, c) => match text_keyvalue::ranged_line(
-                    text,
-                    c,
-                    b"greeting=",
-                    0,
-                    MOST_GREETING,
-                ) {
-                    Told::Not => Given::Bad,
-                    Told::Got(greeting, d) => {
-                        if d < text.len() {
-                            return Given::Bad;
-                        }
-                        Given::Is(Settings {
-                            law,
-                            set,
-                            block,
-                            greeting,
-                        })
-                    }
-                },
-            },
-        },
+    let (law, a) = text_keyvalue::ranged_line(text, 0, b"law=", 0, MOST_LAW)?;
+    let (set, b) = text_keyvalue::ranged_line(text, a, b"set=", 0, ALL_TOOLS)?;
+    let (block, c) = text_keyvalue::ranged_line(text, b, b"block=", 1, MOST_BLOCK)?;
+    let (greeting, d) = text_keyvalue::ranged_line(text, c, b"greeting=", 0, MOST_GREETING)?;
+    if d < text.len() {
+        None
+    } else {
+        Some(Settings {
+            law,
+            set,
+            block,
+            greeting,
+        })
     }
 }
 
@@ -143,6 +91,7 @@ fn put_settings(s: Settings, out: &mut [u8]) -> usize
     text_keyvalue::put_line(b"greeting=", s.greeting, out, c)
 }
 
+// Four fields at their places: a loop would be no plainer.
 fn values_at(state: &[u32], i: usize) -> Settings
     requires { i + 4 ≤ length state.now }
     ensures { result ≡ values_at state.now i }
@@ -165,27 +114,25 @@ fn row_at(state: &[u32], k: usize) -> Revision
     }
 }
 
-// The values kept under a number: "of two with one number the first is meant". Revision 0 is none.
-fn look_up(state: &[u32], n: u32) -> Kept
+// The values kept under a number: "of two with one number the first is meant". Revision 0 is none, as the 41 numbers have it.
+fn look_up(state: &[u32], n: u32) -> Option<Settings>
     requires { length state.now ≡ 41 }
     ensures { result ≡ look_up n (box_of state.now).revisions }
 {
     if n == 0 {
-        return Kept::Nowhere;
+        return None;
     }
-    let mut k = 0;
-    while k < 8 {
+    for k in 0..8 {
         let r = row_at(state, k);
         if r.number == n {
-            let v = r.values;
-            return Kept::Under(v);
+            return Some(r.values);
         }
-        k += 1;
     }
-    Kept::Nowhere
+    None
 }
 
 // A revision's five numbers at place `at` of lent rows.
+// Each field at its place: a loop would be no plainer.
 fn put_row(rows: &mut [u32], at: usize, r: Revision)
     requires { (at + 5 ≤ length rows.old) × (at ≤ 40) }
     ensures { rows.new ≡ take at rows.old ++ (cells_of (r ∷ []) ++ drop (at + 5) rows.old) }
@@ -203,10 +150,11 @@ fn keep_row(rows: &mut [u32], k: usize, r: Revision) -> usize
     ensures { KeepsRow r k rows.old rows.new result }
 {
     if r.number == 0 {
-        return k;
+        k
+    } else {
+        put_row(rows, 5 * k, r);
+        k + 1
     }
-    put_row(rows, 5 * k, r);
-    k + 1
 }
 
 // The kept revisions from the first of the lent rows on, which are all 0; how many they are.
@@ -215,11 +163,9 @@ fn gather(state: &[u32], rows: &mut [u32]) -> usize
     ensures { Gathers (box_of state.now).revisions rows.new result }
 {
     let mut k = 0;
-    let mut i = 0;
-    while i < 8 {
+    for i in 0..8 {
         let r = row_at(state, i);
         k = keep_row(rows, k, r);
-        i += 1;
     }
     k
 }
@@ -229,10 +175,7 @@ fn first_kept(k: usize) -> usize
     requires { k ≤ 8 }
     ensures { result ≡ 5 * (k + 1 - 8) }
 {
-    if k < 8 {
-        return 0;
-    }
-    5
+    if k < 8 { 0 } else { 5 }
 }
 
 // The numbers once values are added.
@@ -247,11 +190,7 @@ fn with_added(state: &[u32], v: Settings) -> [u32; 41]
     let from = first_kept(k);
     let mut next = [0u32; 41];
     next[0] = number;
-    let mut i = 0;
-    while i < 40 {
-        next[i + 1] = rows[from + i];
-        i += 1;
-    }
+    next[1..].copy_from_slice(&rows[from..from + 40]);
     next
 }
 
@@ -268,52 +207,41 @@ fn add(state: &mut [u32; 41], v: Settings) -> Answer
     ensures { Adds (add_to (box_of state.old) v) state.old state.new result }
 {
     let last = last_of(state);
-    if last == 4294967295 {
-        return Answer::Refused(Refusal::Spent);
+    if last == u32::MAX {
+        return Err(Refusal::Spent);
     }
-    let next = with_added(state, v);
-    *state = next;
-    Answer::Done(last + 1)
+    *state = with_added(state, v);
+    Ok(last + 1)
 }
 
 // Saving a text: LINE, SPENT.
 pub fn save(state: &mut [u32; 41], text: &[u8]) -> Answer
     ensures { Save text.now state.old state.new result }
 {
-    match settings_in(text) {
-        Given::Bad => Answer::Refused(Refusal::Line),
-        Given::Is(v) => add(state, v),
-    }
+    let v = settings_in(text).ok_or(Refusal::Line)?;
+    add(state, v)
 }
 
 // Going back to a kept revision: GONE, SPENT.
 pub fn back(state: &mut [u32; 41], revision: u32) -> Answer
     ensures { Back revision state.old state.new result }
 {
-    match look_up(state, revision) {
-        Kept::Nowhere => Answer::Refused(Refusal::Gone),
-        Kept::Under(v) => add(state, v),
-    }
+    let v = look_up(state, revision).ok_or(Refusal::Gone)?;
+    add(state, v)
 }
 
 // A kept revision's text: GONE.
 pub fn read(state: &[u32; 41], revision: u32, text: &mut [u8; 80]) -> Answer
     ensures { Read revision state.now text.old text.new result }
 {
-    match look_up(state, revision) {
-        Kept::Nowhere => Answer::Refused(Refusal::Gone),
-        Kept::Under(v) => {
-            let octets = put_settings(v, text);
-            Answer::Done(octets as u32)
-        }
-    }
+    let v = look_up(state, revision).ok_or(Refusal::Gone)?;
+    let octets = put_settings(v, text);
+    Ok(octets as u32)
 }
 
 // "A wipe for the next tenant empties the list and leaves the numbering running."
 pub fn wipe(state: &mut [u32; 41])
     ensures { Wipe state.old state.new }
 {
-    let mut next = [0u32; 41];
-    next[0] = state[0];
-    *state = next;
+    state[1..].fill(0);
 }

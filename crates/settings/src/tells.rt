@@ -3,38 +3,36 @@
 ghost use Rattle.std.specs.Prelude.{◌≡◌, ◌*◌, ◌<◌, length, get_or};
 ghost use Rattle.settings.specs.Tells.{get_of, get_number_of, values_in, numbers_kept};
 
-use crate::{Kept, Refusal, Settings};
+use crate::{Refusal, Settings};
+use rules::Numbered;
 
 // A kept revision's values: GONE.
-pub fn get(state: &[u32; 41], revision: u32) -> Kept
+pub fn get(state: &[u32; 41], revision: u32) -> Option<Settings>
     ensures { result ≡ get_of state.now revision }
 {
     crate::look_up(state, revision)
 }
 
 // An accepted call has the number 0.
-pub fn get_number(k: Kept) -> u32
+pub fn get_number(k: Option<Settings>) -> u32
     ensures { result ≡ get_number_of k }
 {
     match k {
-        Kept::Under(_) => 0,
-        Kept::Nowhere => crate::refusal_number(Refusal::Gone),
+        Some(_) => 0,
+        None => Refusal::Gone.number(),
     }
 }
 
 // What a call tells; a refused one reports zeros.
-pub fn values_in(k: Kept) -> Settings
+pub fn values_in(k: Option<Settings>) -> Settings
     ensures { result ≡ values_in k }
 {
-    match k {
-        Kept::Under(v) => v,
-        Kept::Nowhere => Settings {
-            law: 0,
-            set: 0,
-            block: 0,
-            greeting: 0,
-        },
-    }
+    k.unwrap_or(Settings {
+        law: 0,
+        set: 0,
+        block: 0,
+        greeting: 0,
+    })
 }
 
 // The number of row k.
@@ -51,14 +49,9 @@ pub fn kept(state: &[u32; 41]) -> [u64; 8]
 {
     let mut rows = [0u32; 45];
     crate::gather(state, &mut rows);
-    [
-        number_at(&rows, 0) as u64,
-        number_at(&rows, 1) as u64,
-        number_at(&rows, 2) as u64,
-        number_at(&rows, 3) as u64,
-        number_at(&rows, 4) as u64,
-        number_at(&rows, 5) as u64,
-        number_at(&rows, 6) as u64,
-        number_at(&rows, 7) as u64,
-    ]
+    let mut numbers = [0u64; 8];
+    for (k, n) in numbers.iter_mut().enumerate() {
+        *n = u64::from(number_at(&rows, k));
+    }
+    numbers
 }

@@ -22,18 +22,16 @@ use Rattle.store_rows.specs.Changed.{nth, remove_at}
 use Rattle.store_greeting.specs.Bad.{is_bad}
 use Rattle.store.specs.declared.Refusal.{Refusal}
 use Rattle.store.specs.declared.Refusal.TheVariants.{Law, Taken, Absent, Bad, Full, NoRoom, Table}
-use Rattle.store.specs.declared.Look.TheVariants.{Stop}
-use Rattle.store.specs.declared.Answer.{Answer}
-use Rattle.store.specs.declared.Answer.TheVariants.{Done, Refused}
+use Rattle.std.proofs.Common.{Ok, Err}
 use Rattle.store.specs.Store.{Outcome, leaves, refused, fitted, put_in, gotten, get_in, without, delete_in}
-use Rattle.store.specs.Calls.{on_table, put_of, get_of, delete_of, Says, Put, Get, Delete}
+use Rattle.store.specs.Calls.{Answer, on_table, put_of, get_of, delete_of, Says, Put, Get, Delete}
 use Rattle.store.specs.Looking.{look_of, Looked, long_of}
 use Rattle.store_rows.proofs.Cells.{nth-rows}
 use Rattle.store.proofs.Looks.{look-stops, many, taken, free, on-table, off-table}
 use Rattle.store.proofs.Fitted.{rows-less}
 use Rattle.store_notes.proofs.Stored.{stored-less}
 
-pub says-refused : {o : Outcome} {w : Refusal} (b t : List ℕ) → o ≡ refused w → Says o b t b t (Refused w)
+pub says-refused : {o : Outcome} {w : Refusal} (b t : List ℕ) → o ≡ refused w → Says o b t b t (Err w)
 says-refused b t e = rw e (record { answer = refl; block = refl; table = refl })
 
 -- the same, in the code's order
@@ -55,12 +53,12 @@ module _ (b t : List ℕ) (size law x : ℕ) (xs : List ℕ) {n i : ℕ} (k : Lo
   abbrev put_is : Outcome
   put_is = put_in b size (rows_of t) (notes_of t) law x xs
 
-  pub put-taken : i < n → Says put_is b t b t (Refused Taken)
+  pub put-taken : i < n → Says put_is b t b t (Err Taken)
   unfolding put_in
   put-taken h = says-refused b t (rw (le-leb law 1 l, k.allowed, taken size t x k h))
 
   module _ (h : n ≤ i) where
-    pub put-long : {w : Refusal} → w ≡ long_of n law xs → size < length xs → Says put_is b t b t (Refused w)
+    pub put-long : {w : Refusal} → w ≡ long_of n law xs → size < length xs → Says put_is b t b t (Err w)
     unfolding put_in long_of
     put-long {w} e g =
         let over = lt-ltb size (held (rows_of t) + length xs) (omega arith) in
@@ -68,17 +66,17 @@ module _ (b t : List ℕ) (size law x : ℕ) (xs : List ℕ) {n i : ℕ} (k : Lo
         (rw (le-leb law 1 l, k.allowed, free size t x k h, many size t x k, over, e)
         (sym (judged-ap refused (λ w. w) NoRoom (bar Bad (is_bad law xs) ∷ bar Full (leb most_greetings n) ∷ []))))
 
-    pub put-bad : is_bad law xs ≡ true → Says put_is b t b t (Refused Bad)
+    pub put-bad : is_bad law xs ≡ true → Says put_is b t b t (Err Bad)
     unfolding put_in
     put-bad g = says-refused b t (rw (le-leb law 1 l, k.allowed, free size t x k h, g))
 
     module _ (g : is_bad law xs ≡ false) where
-      pub put_full : 32 ≤ n → Says put_is b t b t (Refused Full)
+      pub put_full : 32 ≤ n → Says put_is b t b t (Err Full)
       unfolding put_in
       put_full f = says-refused b t (rw (le-leb law 1 l, k.allowed, free size t x k h, g, many size t x k, le-leb 32 n f))
 
       module _ (f : n < 32) {behind : ℕ} (p : behind ≡ held (rows_of t)) where
-        pub put-no-room : size < behind + length xs → Says put_is b t b t (Refused NoRoom)
+        pub put-no-room : size < behind + length xs → Says put_is b t b t (Err NoRoom)
         unfolding put_in
         put-no-room m =
             says-refused b t
@@ -99,13 +97,13 @@ module _ (b t : List ℕ) {size : ℕ} (z : size ≡ size_of b) {sane : Bool} (e
 
   -- TABLE
   module _ (f : sane ≡ false) where
-    pub put-table : (law x : ℕ) (xs : List ℕ) → Put law x xs b t b t (Refused Table)
+    pub put-table : (law x : ℕ) (xs : List ℕ) → Put law x xs b t b t (Err Table)
     put-table law x xs = says-refused b t (off-table (size_of b) t judged f _)
 
-    pub get-table : (x : ℕ) → Get x b t (Refused Table)
+    pub get-table : (x : ℕ) → Get x b t (Err Table)
     get-table x = rw (off-table (size_of b) t judged f (get_in b (rows_of t) (notes_of t) x))
 
-    pub delete-table : (x : ℕ) → Delete x b t t (Refused Table)
+    pub delete-table : (x : ℕ) → Delete x b t t (Err Table)
     delete-table x =
         let o = off-table (size_of b) t judged f (delete_in b (rows_of t) (notes_of t) x) in
         record { answer = rw o; table = rw o }
@@ -114,11 +112,11 @@ module _ (b t : List ℕ) {size : ℕ} (z : size ≡ size_of b) {sane : Bool} (e
     on : (o : Outcome) → on_table (size_of b) t o ≡ o
     on o = on-table (size_of b) t judged f o
 
-    pub put-law : (law x : ℕ) (xs : List ℕ) → 1 < law → Put law x xs b t b t (Refused Law)
+    pub put-law : (law x : ℕ) (xs : List ℕ) → 1 < law → Put law x xs b t b t (Err Law)
     unfolding put_in
     put-law law x xs h = says-refused b t (on _ ∙ rw (lt-leb law 1 h))
 
-    pub put-stop : (law x : ℕ) (xs : List ℕ) {w : Refusal} → law ≤ 1 → Stop w ≡ look_of t x → Put law x xs b t b t (Refused w)
+    pub put-stop : (law x : ℕ) (xs : List ℕ) {w : Refusal} → law ≤ 1 → Err w ≡ look_of t x → Put law x xs b t b t (Err w)
     unfolding put_in
     put-stop law x xs l g = says-refused b t (on _ ∙ rw (le-leb law 1 l) (look-stops t x _ g))
 
@@ -131,22 +129,22 @@ module _ (b t : List ℕ) {size : ℕ} (z : size ≡ size_of b) {sane : Bool} (e
         subst (λ (o : Outcome). Says o b t b' t' r) (sym whole) s
 
     module _ (x : ℕ) where
-      get_refused : {w : Refusal} → get_of b t x ≡ refused w → Get x b t (Refused w)
+      get_refused : {w : Refusal} → get_of b t x ≡ refused w → Get x b t (Err w)
       get_refused g = rw g
 
-      pub get-stop : {w : Refusal} → Stop w ≡ look_of t x → Get x b t (Refused w)
+      pub get-stop : {w : Refusal} → Err w ≡ look_of t x → Get x b t (Err w)
       unfolding get_in
       get-stop g = get_refused (on _ ∙ look-stops t x _ g)
 
-      delete-refused : {w : Refusal} → delete_of b t x ≡ refused w → Delete x b t t (Refused w)
+      delete-refused : {w : Refusal} → delete_of b t x ≡ refused w → Delete x b t t (Err w)
       delete-refused g = record { answer = rw g; table = rw g }
 
-      pub delete-stop : {w : Refusal} → Stop w ≡ look_of t x → Delete x b t t (Refused w)
+      pub delete-stop : {w : Refusal} → Err w ≡ look_of t x → Delete x b t t (Err w)
       unfolding delete_in
       delete-stop g = delete-refused (on _ ∙ look-stops t x _ g)
 
       module _ {n i : ℕ} (k : Looked size t x n i) where
-        pub get_absent : n ≤ i → Get x b t (Refused Absent)
+        pub get_absent : n ≤ i → Get x b t (Err Absent)
         unfolding get_in
         get_absent h = get_refused (on _ ∙ rw (k.allowed, free size t x k h))
 
@@ -154,13 +152,13 @@ module _ (b t : List ℕ) {size : ℕ} (z : size ≡ size_of b) {sane : Bool} (e
         unfolding get_in
         get-is h = on _ ∙ rw (k.allowed, taken size t x k h, ← k.place)
 
-        pub get-found : {r : Row} → i < n → r ≡ row_at t (1 + 3 * i) → Get x b t (Done r.start r.octets)
+        pub get-found : {r : Row} → i < n → r ≡ row_at t (1 + 3 * i) → Get x b t (Ok (r.start, r.octets))
         get-found h g =
             let c = k.count in
             let row = nth-rows t (get_or t 0 0) 1 i (omega arith) in
             rw (get-is h, row, g)
 
-        pub delete-absent : n ≤ i → Delete x b t t (Refused Absent)
+        pub delete-absent : n ≤ i → Delete x b t t (Err Absent)
         unfolding delete_in
         delete-absent h = delete-refused (on _ ∙ rw (k.allowed, free size t x k h))
 
@@ -169,7 +167,7 @@ module _ (b t : List ℕ) {size : ℕ} (z : size ≡ size_of b) {sane : Bool} (e
         delete-is h = on _ ∙ rw (k.allowed, taken size t x k h, ← k.place)
 
         pub delete-found : {t₁ t' : List ℕ} → i < n → t₁ ≡ laid (remove_at i (rows_of t)) t → t' ≡ notes_laid (remove_note i (notes_of t₁)) t₁
-            → Delete x b t t' (Done 0 0)
+            → Delete x b t t' (Ok (0, 0))
         delete-found h g v =
             let s = stored-less (remove_at i (rows_of t)) t (rows-less t i k.noted.order.few) g i v in
             record { answer = rw (delete-is h); table = rw (delete-is h) s }

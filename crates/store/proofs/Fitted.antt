@@ -6,7 +6,7 @@ use mathlib.Core.List.{List, ◌∷◌}
 use native.Mathlib.Omega.{arith}
 use lib.ListN.{length, take, drop, get_or, length-append, length-drop, length-take}
 use Rattle.store_rows.specs.declared.rows.Row.{Row}
-use Rattle.store_rows.specs.declared.rows.Gap.TheVariants.{At, Nowhere}
+use Rattle.std.proofs.Common.{Some, None}
 use Rattle.store_rows.specs.Limits.{largest_block}
 use Rattle.store_rows.specs.Rows.{row_of, held}
 use Rattle.store_rows.specs.Finding.{lowest_gap}
@@ -17,7 +17,7 @@ use Rattle.store_greeting.specs.Marks.{note_of, most_marks}
 use Rattle.store_notes.specs.Notes.{insert_note}
 use Rattle.store_notes.specs.Cells.{heads_of, notes_of, marks_held, notes_laid, stored}
 use Rattle.store_notes.specs.Sane.{Noted}
-use Rattle.store.specs.declared.Answer.TheVariants.{Done}
+use Rattle.std.proofs.Common.{Ok}
 use Rattle.store.specs.Store.{leaves, fitted}
 use Rattle.store.specs.Calls.{Says}
 use Rattle.store_rows.proofs.Cells.{length-rows, count-laid, rows-laid, laid-again}
@@ -77,7 +77,7 @@ pub record Asks (t : List ℕ) (n m : ℕ) : Type 0 where
   pub room : 194 + 2 * (marks_held (heads_of t) + m) ≤ length t
 
 module _ (t : List ℕ) (size x : ℕ) (xs : List ℕ) {n : ℕ} (k : Noted size t) (q : n ≡ get_or t 0 0) where
-  pub gap-told : {i at : ℕ} → At i at ≡ lowest_gap (length xs) size (rows_of t) → (i ≤ n) × (at + length xs ≤ size)
+  pub gap-told : {i at : ℕ} → Some (i, at) ≡ lowest_gap (length xs) size (rows_of t) → (i ≤ n) × (at + length xs ≤ size)
   gap-told e =
       let g = gap-fits (length xs) size 1 0 0 (rows_of t) k.order.rises e in
       (omega (arith, g.among, length-rows t (get_or t 0 0) 1, q), g.inside)
@@ -92,7 +92,7 @@ module _ (t : List ℕ) (size x : ℕ) (xs : List ℕ) {n : ℕ} (k : Noted size
           room = rw (heads-kept rows t s e, l) more;
         }
 
-    pub gap-asks : {i at : ℕ} {t₁ : List ℕ} → At i at ≡ lowest_gap (length xs) size (rows_of t)
+    pub gap-asks : {i at : ℕ} {t₁ : List ℕ} → Some (i, at) ≡ lowest_gap (length xs) size (rows_of t)
         → t₁ ≡ laid (insert_at i (row_of x at (length xs)) (rows_of t)) t → length t₁ ≡ length t → Asks t₁ n m
     gap-asks {i} {at} e g l =
         let r = row_of x at (length xs) in
@@ -105,19 +105,19 @@ module _ (t : List ℕ) (size x : ℕ) (xs : List ℕ) {n : ℕ} (k : Noted size
         asks rows (omega (arith, closed-new b t x xs c q h)) (closed-more b t x xs c q h g) l
 
 module _ (b t : List ℕ) (size law x : ℕ) (xs : List ℕ) (f : get_or t 0 0 ≤ 31) where
-  pub fit-gap : {i at : ℕ} {b' t₁ t' : List ℕ} → At i at ≡ lowest_gap (length xs) size (rows_of t) → i ≤ get_or t 0 0 → b' ≡ written b at xs
+  pub fit-gap : {i at : ℕ} {b' t₁ t' : List ℕ} → Some (i, at) ≡ lowest_gap (length xs) size (rows_of t) → i ≤ get_or t 0 0 → b' ≡ written b at xs
       → t₁ ≡ laid (insert_at i (row_of x at (length xs)) (rows_of t)) t → t' ≡ notes_laid (insert_note i (note_of law xs) (notes_of t₁)) t₁
-      → Says (leaves (fitted b (rows_of t) (notes_of t) size law x xs)) b t b' t' (Done at 0)
+      → Says (leaves (fitted b (rows_of t) (notes_of t) size law x xs)) b t b' t' (Ok (at, 0))
   fit-gap {i} {at} e h p q g =
       let r = row_of x at (length xs) in
       let rows = insert_at i r (rows_of t) in
       let s = stored_more rows t (rows_more t i r f h) q i (note_of law xs) g in
       rw (← e) (record { answer = refl; block = p; table = s })
 
-  pub fit-behind : {b₁ t₁ b' t₂ t' : List ℕ} {n h m : ℕ} → Nowhere ≡ lowest_gap (length xs) size (rows_of t) → Closes b t (rows_of t) b₁ t₁ m
+  pub fit-behind : {b₁ t₁ b' t₂ t' : List ℕ} {n h m : ℕ} → None ≡ lowest_gap (length xs) size (rows_of t) → Closes b t (rows_of t) b₁ t₁ m
       → h ≡ held (rows_of t) → n ≡ get_or t 0 0 → b' ≡ written b₁ h xs → t₂ ≡ laid (insert_at n (row_of x h (length xs)) (rows_of t₁)) t₁
       → t' ≡ notes_laid (insert_note n (note_of law xs) (notes_of t₂)) t₂
-      → Says (leaves (fitted b (rows_of t) (notes_of t) size law x xs)) b t b' t' (Done h m)
+      → Says (leaves (fitted b (rows_of t) (notes_of t) size law x xs)) b t b' t' (Ok (h, m))
   fit-behind {b₁} {t₁} {b'} {t₂} {t'} {n} {h} {m} e c p q k g v =
       let rows = rows_of t in
       let done = closed_rows 0 rows in

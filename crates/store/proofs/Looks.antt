@@ -1,22 +1,22 @@
--- What all calls judge, in the code's order: `look-low`, `look-high`, `look-found`; and what follows where a call goes on: `look-told`,
+-- What all calls judge, in the code's order: `look-stop`, `look-found`; and what follows where a call goes on: `look-told`,
 -- `taken`, `free`.
-use Prim.Native.Nat.{ℕ, ◌+◌, ◌*◌, ◌-◌, ◌≤◌, ◌<◌}
+use Prim.Native.Nat.{ℕ, ◌≤◌, ◌<◌}
 use mathlib.Core.Path.{◌≡◌, sym, ap, ◌∙◌}
 use mathlib.Core.List.{List, [], ◌∷◌}
 use mathlib.Core.Bool.{Bool, true, false, ◌&&◌}
 use native.Mathlib.Omega.{arith}
 use lib.ListN.{length, get_or}
 use lib.Dec.{leb}
-use borrow.Author.Tests.{le-leb, lt-leb, leb-true}
+use borrow.Author.Tests.{leb-true}
 use Rattle.rules.specs.Judged.{ask, judged}
 use Rattle.rules.proofs.Judged.{by-judged, judged-first, Apart, judged-refuses}
 use Rattle.store_rows.specs.Limits.{is_number}
 use Rattle.store_rows.specs.Finding.{absent, find_from}
-use Rattle.store_rows.specs.Cells.{rows_at, rows_of}
+use Rattle.store_rows.specs.Cells.{rows_of}
 use Rattle.store_notes.specs.Sane.{sane_store}
 use Rattle.store.specs.declared.Refusal.{Refusal}
 use Rattle.store.specs.declared.Refusal.TheVariants.{Table, Number}
-use Rattle.store.specs.declared.Look.TheVariants.{Stop, Found}
+use Rattle.std.proofs.Common.{Result, Ok, Err}
 use Rattle.store.specs.Store.{Outcome, refused}
 use Rattle.store.specs.Calls.{on_table}
 use Rattle.store.specs.Looking.{look_of, Looked}
@@ -29,26 +29,20 @@ second true b e = e
 second false b e = cc
 
 -- a call stops or goes on
-looks : (n i : ℕ) → Apart Stop (Found n i)
+looks : (n i : ℕ) → Apart {A = Result (ℕ × ℕ) Refusal} Err (Ok (n, i))
 looks n i = record { other = λ w e. let z : ◌≡◌ {A = ℕ} 0 1 = cc in omega arith; same = λ v w e. cc }
 
 module _ (t : List ℕ) (x : ℕ) where
-  pub look-low : x < 1 → Stop Number ≡ look_of t x
+  pub look-stop : is_number x ≡ false → Err Number ≡ look_of t x
   unfolding look_of
-  look-low h = rw (lt-leb 1 x h)
+  look-stop h = rw h
 
-  pub look-high : 1 ≤ x → 65535 < x → Stop Number ≡ look_of t x
+  pub look-found : {i : ℕ} → is_number x ≡ true → i ≡ find_from x 0 (rows_of t) → Ok (get_or t 0 0, i) ≡ look_of t x
   unfolding look_of
-  look-high h g = rw (le-leb 1 x h, lt-leb x 65535 g)
-
-  pub look-found : {n i : ℕ} → 1 ≤ x → x ≤ 65535 → n ≡ get_or t 0 0 → i ≡ find_from x 0 (rows_at t (n - 0) (1 + 3 * 0)) → Found n i ≡ look_of t x
-  unfolding look_of
-  look-found {n} {i} h g c p =
-      let z : n - 0 ≡ n = omega arith in
-      rw (le-leb 1 x h, le-leb x 65535 g, ← c) (ap (λ (y : ℕ). Found n y) (p ∙ ap (λ (y : ℕ). find_from x 0 (rows_at t y 1)) z))
+  look-found h p = rw (h, p)
 
   -- a call that stops: what it would do over the list of greetings begins with NUMBER too
-  pub look-stops : {w : Refusal} (rest : Outcome) → Stop w ≡ look_of t x → judged (ask Number (is_number x) ∷ []) refused rest ≡ refused w
+  pub look-stops : {w : Refusal} (rest : Outcome) → Err w ≡ look_of t x → judged (ask Number (is_number x) ∷ []) refused rest ≡ refused w
   unfolding look_of
   look-stops {w} rest e =
       let asks = ask Number (is_number x) ∷ [] in
@@ -63,12 +57,20 @@ off-table size t e f o = rw (← e, f)
 
 module _ (size : ℕ) (t : List ℕ) (x : ℕ) where
   -- a call that goes on
-  pub look-told : {n i : ℕ} → sane_store size t ≡ true → Found n i ≡ look_of t x → Looked size t x n i
+  pub look-told : {n i : ℕ} → sane_store size t ≡ true → Ok (n, i) ≡ look_of t x → Looked size t x n i
   unfolding look_of
   look-told {n} {i} p e =
-      by-judged Stop (Found (get_or t 0 0) (find_from x 0 (rows_of t))) (λ o. Found n i ≡ o → Looked size t x n i)
+      by-judged {A = Result (ℕ × ℕ) Refusal} Err (Ok (get_or t 0 0, find_from x 0 (rows_of t))) (λ o. Ok (n, i) ≡ o → Looked size t x n i)
       (ask Number (is_number x) ∷ [])
-      (λ m g. record { sane = p; noted = sane-noted size t p; allowed = m.0; count = cc; place = cc })
+      (λ m g.
+      let q : ◌≡◌ {A = ℕ × ℕ} (n, i) (get_or t 0 0, find_from x 0 (rows_of t)) = cc in
+      record {
+        sane = p;
+        noted = sane-noted size t p;
+        allowed = m.0;
+        count = ap (λ (y : ℕ × ℕ). y.0) q;
+        place = ap (λ (y : ℕ × ℕ). y.1) q;
+      })
       (λ w f g. absurd ((looks n i).other w (sym g))) e
 
   module _ {n i : ℕ} (k : Looked size t x n i) where

@@ -13,10 +13,9 @@ use Rattle.rules.specs.Judged.{Asked, judged}
 use Rattle.rules.proofs.Judged.{AllMet, First, by-judged, Apart, judged-refuses, Gives, first_gives}
 use Rattle.store.specs.declared.Refusal.{Refusal}
 use Rattle.store.specs.declared.Refusal.TheVariants.{Room, Law, Number, Taken, Absent, Bad, Full, NoRoom, Table}
-use Rattle.store.specs.declared.Answer.{Answer}
-use Rattle.store.specs.declared.Answer.TheVariants.{Done, Refused}
+use Rattle.std.proofs.Common.{Ok, Err}
 use Rattle.store.specs.Store.{After, leaves, refused, put_in, get_in, delete_in}
-use Rattle.store.specs.Calls.{refusal_number, number_of, first_of, second_of, put_order, find_order, put_of, get_of, delete_of, Says, Put, Get, Delete}
+use Rattle.store.specs.Calls.{Answer, refusal_number, number_of, first_of, second_of, put_order, find_order, put_of, get_of, delete_of, Says, Put, Get, Delete}
 
 -- a call leaves something or is refused
 pub outcomes : (a : After) → Apart refused (leaves a)
@@ -63,7 +62,7 @@ pub only-delete : {number : ℕ} {b t t₁ t₂ : List ℕ} {r s : Answer} → D
 only-delete p q = record { answer = p.answer ∙ sym q.answer; block = refl; table = p.table ∙ sym q.table }
 
 -- "a refused one changes nothing"
-pub refused-nothing : {w : Refusal} {b t b' t' : List ℕ} {r : Answer} → Says (refused w) b t b' t' r → Same r (Refused w) b' t' b t
+pub refused-nothing : {w : Refusal} {b t b' t' : List ℕ} {r : Answer} → Says (refused w) b t b' t' r → Same r (Err w) b' t' b t
 refused-nothing s = record { answer = s.answer; block = s.block; table = s.table }
 
 -- the answer, by the paper's number and the two numbers told
@@ -80,19 +79,19 @@ abbrev told : Answer → Told
 told a = record { first = first_of a; second = second_of a }
 
 abbrev answer_by : ℕ → Told → Answer
-answer_by n t = cond (eqb n 0) (Done t.first t.second) (Refused (why n))
+answer_by n t = cond (eqb n 0) (Ok (t.first, t.second)) (Err (why n))
 
 by-numbers : (a : Answer) → answer_by (number_of a) (told a) ≡ a
-by-numbers (Done first second) = refl
-by-numbers (Refused Room) = refl
-by-numbers (Refused Law) = refl
-by-numbers (Refused Number) = refl
-by-numbers (Refused Taken) = refl
-by-numbers (Refused Absent) = refl
-by-numbers (Refused Bad) = refl
-by-numbers (Refused Full) = refl
-by-numbers (Refused NoRoom) = refl
-by-numbers (Refused Table) = refl
+by-numbers (Ok (first, second)) = refl
+by-numbers (Err Room) = refl
+by-numbers (Err Law) = refl
+by-numbers (Err Number) = refl
+by-numbers (Err Taken) = refl
+by-numbers (Err Absent) = refl
+by-numbers (Err Bad) = refl
+by-numbers (Err Full) = refl
+by-numbers (Err NoRoom) = refl
+by-numbers (Err Table) = refl
 
 pub answers-one-to-one : (a b : Answer) → number_of a ≡ number_of b → first_of a ≡ first_of b → second_of a ≡ second_of b → a ≡ b
 answers-one-to-one a b n f s =

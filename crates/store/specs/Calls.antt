@@ -7,8 +7,9 @@ use Rattle.store_notes.specs.Cells.{notes_of, stored}
 use Rattle.store_notes.specs.Sane.{sane_store}
 use Rattle.store.specs.declared.Refusal.{Refusal}
 use Rattle.store.specs.declared.Refusal.TheVariants.{Room, Law, Number, Taken, Absent, Bad, Full, NoRoom, Table}
-use Rattle.store.specs.declared.Answer.{Answer}
-use Rattle.store.specs.declared.Answer.TheVariants.{Done, Refused}
+use Rattle.std.specs.declared.result.Result.{Result}
+use Rattle.std.specs.Prelude.{Ok, Err}
+use Rattle.rules.specs.Refusals.{numbered}
 use Rattle.store.specs.Store.{Outcome, leaves, refused, put_asks, put_in, find_asks, get_in, delete_in}
 
 -- the paper's number of a refusal; an accepted call has 0
@@ -23,18 +24,33 @@ refusal_number Full = 19
 refusal_number NoRoom = 20
 refusal_number Table = 26
 
+-- no refusal has the number 0
+pub refusal-not-zero : (w : Refusal) → refusal_number w ≡ 0 → ⊥
+refusal-not-zero Room e = cc
+refusal-not-zero Law e = cc
+refusal-not-zero Number e = cc
+refusal-not-zero Taken e = cc
+refusal-not-zero Absent e = cc
+refusal-not-zero Bad e = cc
+refusal-not-zero Full e = cc
+refusal-not-zero NoRoom e = cc
+refusal-not-zero Table e = cc
+
+-- two numbers, or the refusal
+abbrev pub Answer : Type 0
+Answer = Result (ℕ × ℕ) Refusal
+
 abbrev pub number_of : Answer → ℕ
-number_of (Done first second) = 0
-number_of (Refused w) = refusal_number w
+number_of = numbered refusal_number
 
 -- the two numbers that an accepted call tells; a refused one reports zeros
 abbrev pub first_of : Answer → ℕ
-first_of (Done first second) = first
-first_of (Refused w) = 0
+first_of (Ok (first, second)) = first
+first_of (Err w) = 0
 
 abbrev pub second_of : Answer → ℕ
-second_of (Done first second) = second
-second_of (Refused w) = 0
+second_of (Ok (first, second)) = second
+second_of (Err w) = 0
 
 -- a lent table is judged first: TABLE where it is not what calls leave
 abbrev pub table_ask : ℕ → List ℕ → Asked Refusal
@@ -61,8 +77,8 @@ delete_of b t number = on_table (size_of b) t (delete_in b (rows_of t) (notes_of
 
 -- what a call answers, and what it leaves of the block and the table; "a refused one changes nothing"
 abbrev pub answer_of : Outcome → Answer
-answer_of (leaves a) = Done a.first a.second
-answer_of (refused w) = Refused w
+answer_of (leaves a) = Ok (a.first, a.second)
+answer_of (refused w) = Err w
 
 abbrev pub block_after : Outcome → List ℕ → List ℕ
 block_after (leaves a) b = a.block

@@ -12,14 +12,13 @@ use Rattle.store_notes.specs.Cells.{notes_of}
 use Rattle.store_notes.specs.Sane.{sane_store, Noted}
 use Rattle.store.specs.declared.Refusal.{Refusal}
 use Rattle.store.specs.declared.Refusal.TheVariants.{Number, Bad, Full, NoRoom}
-use Rattle.store.specs.declared.Answer.{Answer}
-use Rattle.store.specs.declared.Look.{Look}
-use Rattle.store.specs.declared.Look.TheVariants.{Stop, Found}
+use Rattle.std.specs.declared.result.Result.{Result}
+use Rattle.std.specs.Prelude.{Ok, Err}
 use Rattle.store.specs.Store.{leaves, fitted, put_in}
-use Rattle.store.specs.Calls.{Says}
+use Rattle.store.specs.Calls.{Answer, Says}
 
-unfoldable pub look_of : List ℕ → ℕ → Look
-look_of t number = judged (ask Number (is_number number) ∷ []) Stop (Found (get_or t 0 0) (find_from number 0 (rows_of t)))
+unfoldable pub look_of : List ℕ → ℕ → Result (ℕ × ℕ) Refusal
+look_of t number = judged (ask Number (is_number number) ∷ []) Err (Ok (get_or t 0 0, find_from number 0 (rows_of t)))
 
 -- n greetings, and the number's place i among them, after both were judged
 pub record Looked (size : ℕ) (t : List ℕ) (number n i : ℕ) : Type 0 where

@@ -1,11 +1,9 @@
 -- Document 02, R-6: "Put, get (start and octets), delete; a refused one changes nothing." Over a block of a size, the list of its greetings
 -- and their notes (R-8): "Every put and move keeps marks true to what the walk gives."
-use Rattle.std.specs.Prelude.{ℕ, ◌+◌, List, [], ◌∷◌, length, leb, ltb}
+use Rattle.std.specs.Prelude.{ℕ, ◌+◌, List, [], ◌∷◌, length, leb, ltb, Option, Some, None}
 use Rattle.rules.specs.Judged.{Asked, ask, bar, judged}
 use Rattle.rules.specs.Tools.{is_law}
 use Rattle.store_rows.specs.declared.rows.Row.{Row}
-use Rattle.store_rows.specs.declared.rows.Gap.{Gap}
-use Rattle.store_rows.specs.declared.rows.Gap.TheVariants.{At, Nowhere}
 use Rattle.store_rows.specs.Limits.{most_greetings, is_number}
 use Rattle.store_rows.specs.Rows.{row_of, held}
 use Rattle.store_rows.specs.Finding.{absent, find_from, lowest_gap}
@@ -52,9 +50,9 @@ put_behind b rows notes law number xs =
       second = moved_from 0 rows;
     }
 
-abbrev pub put_at : List ℕ → List Row → List Note → ℕ → ℕ → List ℕ → Gap → After
-put_at b rows notes law number xs (At i at) = put_into b rows notes law number xs i at
-put_at b rows notes law number xs Nowhere = put_behind b rows notes law number xs
+abbrev pub put_at : List ℕ → List Row → List Note → ℕ → ℕ → List ℕ → Option (ℕ × ℕ) → After
+put_at b rows notes law number xs (Some (i, at)) = put_into b rows notes law number xs i at
+put_at b rows notes law number xs None = put_behind b rows notes law number xs
 
 abbrev pub fitted : List ℕ → List Row → List Note → ℕ → ℕ → ℕ → List ℕ → After
 fitted b rows notes size law number xs = put_at b rows notes law number xs (lowest_gap (length xs) size rows)

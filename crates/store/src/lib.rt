@@ -10,12 +10,12 @@ ghost use Rattle.store_rows.specs.Rows.{held as held_by};
 ghost use Rattle.store_rows.specs.Cells.{rows_of};
 ghost use Rattle.store_notes.specs.Sane.{Noted};
 ghost use Rattle.store_notes.specs.Changed.{Taken};
-ghost use Rattle.store.specs.Calls.{refusal_number, number_of, first_of, second_of, Put, Get, Delete};
+ghost use Rattle.store.specs.Calls.{refusal_number, refusal-not-zero, Put, Get, Delete};
 ghost use Rattle.store.specs.Looking.{look_of, Looked, long_of, PutsIn, FitsIn, PlacedAt};
 
-use store_greeting::marks::Tally;
+use rules::Numbered;
 use store_notes::Head;
-use store_rows::rows::{Gap, Row};
+use store_rows::rows::Row;
 
 // "Refusals, in order"; TABLE (26) comes first, and ROOM (4) is saving's.
 #[derive(Clone, Copy)]
@@ -32,18 +32,7 @@ pub enum Refusal {
 }
 
 // The start and the octets moved, or the start and the octets; or the refusal.
-#[derive(Clone, Copy)]
-pub enum Answer {
-    Done(usize, usize),
-    Refused(Refusal),
-}
-
-// What is judged after the table: a refusal, or how many greetings there are and the number's place among them.
-#[derive(Drop)]
-pub enum Look {
-    Stop(Refusal),
-    Found(usize, usize),
-}
+pub type Answer = Result<(usize, usize), Refusal>;
 
 // What a put goes on with: the block's size, how many greetings there are, and the number's place among them.
 #[derive(Drop)]
@@ -54,64 +43,37 @@ pub struct Sought {
     pub number: usize,
 }
 
-pub fn refusal_number(why: Refusal) -> u32
-    ensures { result ≡ refusal_number why }
-{
-    match why {
-        Refusal::Room => 4,
-        Refusal::Law => 12,
-        Refusal::Number => 15,
-        Refusal::Taken => 16,
-        Refusal::Absent => 17,
-        Refusal::Bad => 18,
-        Refusal::Full => 19,
-        Refusal::NoRoom => 20,
-        Refusal::Table => 26,
+impl Numbered for Refusal {
+    ghost number = { refusal_number };
+
+    ghost never_zero = { refusal-not-zero };
+
+    fn number(self) -> u32 {
+        match self {
+            Refusal::Room => 4,
+            Refusal::Law => 12,
+            Refusal::Number => 15,
+            Refusal::Taken => 16,
+            Refusal::Absent => 17,
+            Refusal::Bad => 18,
+            Refusal::Full => 19,
+            Refusal::NoRoom => 20,
+            Refusal::Table => 26,
+        }
     }
 }
 
-// An accepted call has the number 0.
-pub fn number_of(a: Answer) -> u32
-    ensures { result ≡ number_of a }
-{
-    match a {
-        Answer::Done(_, _) => 0,
-        Answer::Refused(why) => refusal_number(why),
-    }
-}
-
-// What an accepted call tells; a refused one reports zeros.
-pub fn first_of(a: Answer) -> usize
-    ensures { result ≡ first_of a }
-{
-    match a {
-        Answer::Done(first, _) => first,
-        Answer::Refused(_) => 0,
-    }
-}
-
-pub fn second_of(a: Answer) -> usize
-    ensures { result ≡ second_of a }
-{
-    match a {
-        Answer::Done(_, second) => second,
-        Answer::Refused(_) => 0,
-    }
-}
-
-// What all calls judge after the table: NUMBER.
-fn judge(table: &[u32], size: usize, number: usize) -> Look
+// What all calls judge after the table: NUMBER. Then how many greetings there are, and the number's place among them, or the place past
+// them.
+fn judge(table: &[u32], size: usize, number: usize) -> Result<(usize, usize), Refusal>
     requires { Noted size table.now }
     ensures { result ≡ look_of table.now number }
 {
-    if number < 1 {
-        return Look::Stop(Refusal::Number);
+    if !store_rows::rows::is_number(number) {
+        return Err(Refusal::Number);
     }
-    if store_rows::rows::MOST_NUMBER < number {
-        return Look::Stop(Refusal::Number);
-    }
-    let n = store_rows::rows::wide(table[0]);
-    Look::Found(n, store_rows::rows::find(table, n, 0, number))
+    let n = table[0] as usize;
+    Ok((n, store_rows::rows::find(table, n, number).unwrap_or(n)))
 }
 
 // A greeting written at a place, with its row, i rows standing before it.
@@ -129,16 +91,15 @@ fn place(
     ensures { PlacedAt i at number octets.now block.old table.old
         block.new table.new }
 {
-    let len = octets.len();
-    store_rows::placing::copy(block, at, octets);
+    block[at..at + octets.len()].copy_from_slice(octets);
     store_rows::placing::insert(
         table,
         n,
         i,
         Row {
-            number: number,
+            number,
             start: at,
-            octets: len,
+            octets: octets.len(),
         },
     );
 }
@@ -163,12 +124,12 @@ fn fit(
         block.new table.new result }
 {
     match store_rows::rows::lowest_gap(table, sought.n, sought.size, octets.len()) {
-        Gap::At(i, at) => {
+        Some((i, at)) => {
             place(block, table, sought.n, i, at, sought.number, octets);
             store_notes::put_taken(table, sought.n, i, head, octets, marks);
-            Answer::Done(at, 0)
+            Ok((at, 0))
         }
-        Gap::Nowhere => {
+        None => {
             let moved = store_rows::closing::close_up(block, table, sought.size);
             place(
                 block,
@@ -180,7 +141,7 @@ fn fit(
                 octets,
             );
             store_notes::put_taken(table, sought.n, sought.n, head, octets, marks);
-            Answer::Done(behind, moved)
+            Ok((behind, moved))
         }
     }
 }
@@ -215,11 +176,11 @@ fn put_sound(
         block.new table.new result }
 {
     if store_rows::rows::MOST_GREETINGS <= sought.n {
-        return Answer::Refused(Refusal::Full);
+        return Err(Refusal::Full);
     }
     let behind = store_rows::rows::held(table, sought.n, sought.size);
     if sought.size - behind < octets.len() {
-        return Answer::Refused(Refusal::NoRoom);
+        return Err(Refusal::NoRoom);
     }
     fit(block, table, sought, behind, octets, head, marks)
 }
@@ -234,23 +195,23 @@ fn put_among(block: &mut [u8], table: &mut [u32], sought: Sought, law: u32, octe
         block.new table.new result }
 {
     if sought.i < sought.n {
-        return Answer::Refused(Refusal::Taken);
+        return Err(Refusal::Taken);
     }
     if sought.size < octets.len() {
-        return Answer::Refused(over_long(sought.n, octets, law));
+        return Err(over_long(sought.n, octets, law));
     }
     let mut marks = [0u32; store_greeting::marks::KEPT_APART];
     match store_greeting::marks::take(octets, law, &mut marks) {
-        Tally::Wrong => Answer::Refused(Refusal::Bad),
-        Tally::Counted(samples, m) => put_sound(
+        None => Err(Refusal::Bad),
+        Some(taken) => put_sound(
             block,
             table,
             sought,
             octets,
             Head {
-                law: law,
-                samples: samples,
-                marks: m,
+                law,
+                samples: taken.samples,
+                marks: taken.marks,
             },
             &marks,
         ),
@@ -264,27 +225,14 @@ pub fn put(block: &mut [u8], table: &mut [u32], law: u32, number: u32, octets: &
 {
     let size = store_rows::rows::size_of(block.len());
     if !store_notes::sane(table, size) {
-        return Answer::Refused(Refusal::Table);
+        return Err(Refusal::Table);
     }
     if rules::MOST_LAW < law {
-        return Answer::Refused(Refusal::Law);
+        return Err(Refusal::Law);
     }
-    let x = store_rows::rows::wide(number);
-    match judge(table, size, x) {
-        Look::Stop(why) => Answer::Refused(why),
-        Look::Found(n, i) => put_among(
-            block,
-            table,
-            Sought {
-                size: size,
-                n: n,
-                i: i,
-                number: x,
-            },
-            law,
-            octets,
-        ),
-    }
+    let number = number as usize;
+    let (n, i) = judge(table, size, number)?;
+    put_among(block, table, Sought { size, n, i, number }, law, octets)
 }
 
 // "Get": TABLE, NUMBER, ABSENT; the start and the octets.
@@ -293,18 +241,14 @@ pub fn get(block: &[u8], table: &[u32], number: u32) -> Answer
 {
     let size = store_rows::rows::size_of(block.len());
     if !store_notes::sane(table, size) {
-        return Answer::Refused(Refusal::Table);
+        return Err(Refusal::Table);
     }
-    match judge(table, size, store_rows::rows::wide(number)) {
-        Look::Stop(why) => Answer::Refused(why),
-        Look::Found(n, i) => {
-            if n <= i {
-                return Answer::Refused(Refusal::Absent);
-            }
-            let r = store_rows::rows::row_at(table, 1 + store_rows::rows::ROW_CELLS * i);
-            Answer::Done(r.start, r.octets)
-        }
+    let (n, i) = judge(table, size, number as usize)?;
+    if n <= i {
+        return Err(Refusal::Absent);
     }
+    let r = store_rows::rows::row_at(table, 1 + store_rows::rows::ROW_CELLS * i);
+    Ok((r.start, r.octets))
 }
 
 // "Delete": TABLE, NUMBER, ABSENT. Its note goes with it, and the marks behind close up.
@@ -313,17 +257,13 @@ pub fn delete(block: &[u8], table: &mut [u32], number: u32) -> Answer
 {
     let size = store_rows::rows::size_of(block.len());
     if !store_notes::sane(table, size) {
-        return Answer::Refused(Refusal::Table);
+        return Err(Refusal::Table);
     }
-    match judge(table, size, store_rows::rows::wide(number)) {
-        Look::Stop(why) => Answer::Refused(why),
-        Look::Found(n, i) => {
-            if n <= i {
-                return Answer::Refused(Refusal::Absent);
-            }
-            store_rows::placing::remove(table, n, i);
-            store_notes::drop_note(table, n, i);
-            Answer::Done(0, 0)
-        }
+    let (n, i) = judge(table, size, number as usize)?;
+    if n <= i {
+        return Err(Refusal::Absent);
     }
+    store_rows::placing::remove(table, n, i);
+    store_notes::drop_note(table, n, i);
+    Ok((0, 0))
 }

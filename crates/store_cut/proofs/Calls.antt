@@ -9,8 +9,7 @@ use mathlib.Core.Bool.{true}
 use native.Mathlib.Omega.{arith}
 use lib.ListN.{length, get_or}
 use Rattle.store_rows.specs.declared.rows.Row.{Row}
-use Rattle.store_rows.specs.declared.rows.Gap.{Gap}
-use Rattle.store_rows.specs.declared.rows.Gap.TheVariants.{At, Nowhere}
+use Rattle.std.specs.Prelude.{Option, Some, None}
 use Rattle.store_rows.specs.Limits.{largest_block, size_of}
 use Rattle.store_rows.specs.Rows.{row_of, held, Kept, contents}
 use Rattle.store_rows.specs.Finding.{lowest_gap}
@@ -107,10 +106,10 @@ pub record Laid (law x : ℕ) (xs : List ℕ) (s : Store) (b : List ℕ) (rows :
 
 -- in a gap, and behind all that have closed up
 pub laid-gap : {s : Store} (law x : ℕ) (xs : List ℕ) {a : After} {i at : ℕ} → put_of s.block s.table law x xs ≡ leaves a
-    → At i at ≡ lowest_gap (length xs) (size_of s.block) (rows_in s) → Laid law x xs s s.block (rows_in s) i at
+    → Some (i, at) ≡ lowest_gap (length xs) (size_of s.block) (rows_in s) → Laid law x xs s s.block (rows_in s) i at
 laid-gap {s} law x xs e g =
     let is = (put-granted s.block s.table law x xs _ e).is
-    ∙ ap (λ (d : Gap). put_at s.block (rows_in s) (notes_for s) law x xs d) (sym g) in
+    ∙ ap (λ (d : Option (ℕ × ℕ)). put_at s.block (rows_in s) (notes_for s) law x xs d) (sym g) in
     record {
       block = next-block s law x xs e ∙ ap (λ (y : After). y.block) is;
       rows_are = next-rows s law x xs e ∙ ap (λ (y : After). y.rows) is;
@@ -118,11 +117,11 @@ laid-gap {s} law x xs e g =
     }
 
 pub laid-behind : {s : Store} (law x : ℕ) (xs : List ℕ) {a : After} → put_of s.block s.table law x xs ≡ leaves a
-    → Nowhere ≡ lowest_gap (length xs) (size_of s.block) (rows_in s)
+    → None ≡ lowest_gap (length xs) (size_of s.block) (rows_in s)
     → Laid law x xs s (closed_block s.block (rows_in s)) (closed_rows 0 (rows_in s)) (length (rows_in s)) (held (rows_in s))
 laid-behind {s} law x xs e g =
     let is = (put-granted s.block s.table law x xs _ e).is
-    ∙ ap (λ (d : Gap). put_at s.block (rows_in s) (notes_for s) law x xs d) (sym g) in
+    ∙ ap (λ (d : Option (ℕ × ℕ)). put_at s.block (rows_in s) (notes_for s) law x xs d) (sym g) in
     record {
       block = next-block s law x xs e ∙ ap (λ (y : After). y.block) is;
       rows_are = next-rows s law x xs e ∙ ap (λ (y : After). y.rows) is;
@@ -137,7 +136,7 @@ pub record Made (size : ℕ) (s : Store) (l : Lasting) : Type 0 where
 
 -- the last writes of a put: its octets, the text, the record
 module _ {size page : ℕ} {s : Store} {rows : List Row} {l : Lasting} (k : Keeps size s) (law x : ℕ) (xs : List ℕ) {i at : ℕ}
-    (z : Rests size (contents_of s) (notes_for s) page rows l) (g : At i at ≡ lowest_gap (length xs) (min size largest_block) rows)
+    (z : Rests size (contents_of s) (notes_for s) page rows l) (g : Some (i, at) ≡ lowest_gap (length xs) (min size largest_block) rows)
     (w : Laid law x xs s l.block rows i at) where
   abbrev then : Store
   then = see (putting law x xs) s
@@ -164,14 +163,14 @@ module _ {size page : ℕ} {s : Store} {rows : List Row} {l : Lasting} (k : Keep
       after (subst (λ (n : List Note). Bears size (contents_of then) n l') (sym w.notes)
       (subst (λ (ks : List Kept). Bears size ks (insert_note i (note_of law xs) (notes_for s)) l') same y))
 
-  pub last-cut : {l' : Lasting} → Run (put_writes page l.block rows (notes_for s) law x xs (At i at)) l l'
+  pub last-cut : {l' : Lasting} → Run (put_writes page l.block rows (notes_for s) law x xs (Some (i, at))) l l'
       → Either (Bears size (contents_of s) (notes_for s) l') (Bears size (contents_of then) (notes_for then) l')
   last-cut r = told (put-cut z law x xs g fine-next r)
 
-  pub last_made : Made size then (made_all (put_writes page l.block rows (notes_for s) law x xs (At i at)) l)
+  pub last_made : Made size then (made_all (put_writes page l.block rows (notes_for s) law x xs (Some (i, at))) l)
   unfolding made_all
   last_made =
-      let m = made_all (put_writes page l.block rows (notes_for s) law x xs (At i at)) l in
+      let m = made_all (put_writes page l.block rows (notes_for s) law x xs (Some (i, at))) l in
       record {
         page = 1 - page;
         rests =
@@ -184,14 +183,14 @@ module _ {size page : ℕ} {s : Store} {rows : List Row} {l : Lasting} (k : Keep
 
 -- a put that finds a gap
 pub put-promise : {size page : ℕ} {s : Store} {l l' : Lasting} (k : Keeps size s) (law x : ℕ) (xs : List ℕ) {a : After} {i at : ℕ}
-    → put_of s.block s.table law x xs ≡ leaves a → At i at ≡ lowest_gap (length xs) (size_of s.block) (rows_in s)
+    → put_of s.block s.table law x xs ≡ leaves a → Some (i, at) ≡ lowest_gap (length xs) (size_of s.block) (rows_in s)
     → s.block ≡ l.block → Rests size (contents_of s) (notes_for s) page (rows_in s) l
-    → Run (put_writes page l.block (rows_in s) (notes_for s) law x xs (At i at)) l l'
+    → Run (put_writes page l.block (rows_in s) (notes_for s) law x xs (Some (i, at))) l l'
     → (t : List ℕ) → store_cells (min size largest_block) ≤ length t
     → Either (Loads (contents_of s) (notes_for s) l' t)
     (Loads (contents_of (see (putting law x xs) s)) (notes_for (see (putting law x xs) s)) l' t)
 put-promise {size} {page} {s} {l} k law x xs {a} {i} {at} e g b z r t c =
-    let gap = subst (λ (y : ℕ). At i at ≡ lowest_gap (length xs) (min y largest_block) (rows_in s)) k.long g in
+    let gap = subst (λ (y : ℕ). Some (i, at) ≡ lowest_gap (length xs) (min y largest_block) (rows_in s)) k.long g in
     let w = subst (λ (y : List ℕ). Laid law x xs s y (rows_in s) i at) b (laid-gap law x xs e g) in
     let k' = call_kept size (putting law x xs) s k in
     cut-loads k.good k.marks k'.good k'.marks t c (last-cut k law x xs z gap w r)

@@ -11,7 +11,7 @@ use lib.Seq.{paste, drop-drop, drop-paste}
 use lib.Dec.{eqb}
 use borrow.Author.Tests.{eqb-true, eq-eqb, ne_eqb, lt-ltb, le-ltb}
 use Rattle.store_rows.specs.declared.rows.Row.{Row}
-use Rattle.store_rows.specs.declared.rows.Gap.TheVariants.{At}
+use Rattle.std.specs.Prelude.{Option, Some, None}
 use Rattle.store_rows.specs.Limits.{largest_block}
 use Rattle.store_rows.specs.Rows.{held, greeting, Kept, contents}
 use Rattle.store_rows.specs.Finding.{gap_from}
@@ -22,8 +22,6 @@ use Rattle.store_rows.proofs.Lists.{same_drop}
 use Rattle.store_rows.proofs.Rising.{Next, rising-head}
 use Rattle.store_greeting.specs.Marks.{Note}
 use Rattle.store_promises.proofs.Rising.{held-append, held_cons}
-use Rattle.store_moves.specs.declared.calls.Due.{Due}
-use Rattle.store_moves.specs.declared.calls.Due.TheVariants.{Goes, Closed}
 use Rattle.store_moves.specs.Next.{next_from, next_of, moved_at}
 use Rattle.store_cut.specs.Lasting.{Lasting, made_all}
 use Rattle.store_cut.specs.Writes.{move_writes, closing_writes}
@@ -66,15 +64,15 @@ from_place b rest at n k e =
     ∙ ap (λ (x : ℕ). take n (drop at b) ++ (rest ++ drop x b)) z
     ∙ ap (λ (x : List ℕ). take n (drop at b) ++ x) (e ∙ sym (drop-drop n at b)) ∙ take-append-drop n (drop at b)
 
-next-closed : (i at : ℕ) (rows : List Row) → Closed ≡ next_from i at rows → Shut at rows
+next-closed : (i at : ℕ) (rows : List Row) → None ≡ next_from i at rows → Shut at rows
 unfolding next_from closed_rows moved_from bodies held
 next-closed i at [] e =
     let z : at + 0 ≡ at = omega arith in
     record { rows_are = refl; none = refl; stays = λ b. ap (λ (x : ℕ). drop x b) z }
 next-closed i at (r ∷ rows) e = go (λ q. next-closed (i + 1) (at + r.octets) rows q) (eqb r.start at) refl e
   where
-    go : (Closed ≡ next_from (i + 1) (at + r.octets) rows → Shut (at + r.octets) rows) → (x : Bool) → eqb r.start at ≡ x
-        → Closed ≡ cond x (next_from (i + 1) (at + r.octets) rows) (Goes i at) → Shut at (r ∷ rows)
+    go : (None ≡ next_from (i + 1) (at + r.octets) rows → Shut (at + r.octets) rows) → (x : Bool) → eqb r.start at ≡ x
+        → None ≡ cond x (next_from (i + 1) (at + r.octets) rows) (Some (i, at)) → Shut at (r ∷ rows)
     go more true h q =
         let w = more q in
         record {
@@ -87,31 +85,31 @@ next-closed i at (r ∷ rows) e = go (λ q. next-closed (i + 1) (at + r.octets) 
         }
     go more false h q = let z : ◌≡◌ {A = ℕ} 0 1 = cc in absurd (omega arith)
 
-apart_none : (i at : ℕ) (rows : List Row) → apart_from at rows ≤ 0 → Closed ≡ next_from i at rows
+apart_none : (i at : ℕ) (rows : List Row) → apart_from at rows ≤ 0 → None ≡ next_from i at rows
 unfolding next_from apart_from
 apart_none i at [] h = refl
 apart_none i at (r ∷ rows) h = go (λ q. apart_none (i + 1) (at + r.octets) rows q) (eqb r.start at) refl
   where
-    go : (apart_from (at + r.octets) rows ≤ 0 → Closed ≡ next_from (i + 1) (at + r.octets) rows) → (x : Bool) → eqb r.start at ≡ x
-        → Closed ≡ cond (eqb r.start at) (next_from (i + 1) (at + r.octets) rows) (Goes i at)
+    go : (apart_from (at + r.octets) rows ≤ 0 → None ≡ next_from (i + 1) (at + r.octets) rows) → (x : Bool) → eqb r.start at ≡ x
+        → None ≡ cond (eqb r.start at) (next_from (i + 1) (at + r.octets) rows) (Some (i, at))
     go more true e = rw e (more (omega (arith, h)))
     go more false e = absurd (omega (arith, rw e at h))
 
 -- the rows and the sum, as closing up leaves and reports them
-pub record Closes (n : ℕ) (rows : List Row) (d : Due) : Type 0 where
+pub record Closes (n : ℕ) (rows : List Row) (d : Option (ℕ × ℕ)) : Type 0 where
   pub rows_are : closing_rows n rows d ≡ closed_rows 0 rows
   pub sum : closing_sum n rows d ≡ moved_from 0 rows
 
-shut-closes : (n : ℕ) (rows : List Row) (d : Due) → d ≡ Closed → Shut 0 rows → Closes n rows d
+shut-closes : (n : ℕ) (rows : List Row) (d : Option (ℕ × ℕ)) → d ≡ None → Shut 0 rows → Closes n rows d
 unfolding closing_rows closing_sum
 shut-closes zero rows d e s = record { rows_are = sym s.rows_are; sum = sym s.none }
 shut-closes (suc n) rows d e s = rw e (record { rows_are = sym s.rows_are; sum = sym s.none })
 
-closes-step : (n : ℕ) (rows : List Row) (d : Due) → d ≡ next_of rows → apart_from 0 rows ≤ suc n
+closes-step : (n : ℕ) (rows : List Row) (d : Option (ℕ × ℕ)) → d ≡ next_of rows → apart_from 0 rows ≤ suc n
     → ((rows' : List Row) → apart_from 0 rows' ≤ n → Closes n rows' (next_of rows')) → Closes (suc n) rows d
 unfolding closing_rows closing_sum
-closes-step n rows Closed e h f = shut-closes (suc n) rows Closed refl (next-closed 0 0 rows e)
-closes-step n rows (Goes i at) e h f =
+closes-step n rows None e h f = shut-closes (suc n) rows None refl (next-closed 0 0 rows e)
+closes-step n rows (Some (i, at)) e h f =
     let a = next-away 0 0 rows e in
     let rows' = a.pre ++ (moved_to at a.row ∷ a.post) in
     let k : i ≡ length a.pre = omega (arith, a.index) in
@@ -170,7 +168,7 @@ moved-closed b b' to pre r post p e h g c =
     ∙ ap (λ (x : List ℕ). bodies b rows ++ x) (same_drop (to + r.octets) (held rows) b' b d (omega arith))
 
 module _ {size page : ℕ} {K : List Kept} {N : List Note} {rows : List Row} {l : Lasting} {i at : ℕ} (z : Rests size K N page rows l)
-    (e : Goes i at ≡ next_of rows) where
+    (e : Some (i, at) ≡ next_of rows) where
   abbrev next : Away 0 0 rows i at
   next = next-away 0 0 rows e
 
@@ -209,14 +207,14 @@ shut-block b rows s =
     ap (λ (x : ℕ). bodies b rows ++ drop x b) (sym z) ∙ s.stays b
 
 block-step : (n : ℕ) {size page : ℕ} {K : List Kept} {N : List Note} {rows : List Row} {l : Lasting} (z : Rests size K N page rows l)
-    (x : Due)
+    (x : Option (ℕ × ℕ))
     → x ≡ next_of rows → apart_from 0 rows ≤ suc n
-    → ((i at : ℕ) → Goes i at ≡ next_of rows → apart_from 0 (moved_at i at rows) ≤ n
+    → ((i at : ℕ) → Some (i, at) ≡ next_of rows → apart_from 0 (moved_at i at rows) ≤ n
     → (made_all (others n z i at) (made_all (one n z i at) l)).block ≡ closed_block (made_all (one n z i at) l).block (moved_at i at rows))
     → (made_all (closing_writes (suc n) page l rows N x) l).block ≡ closed_block l.block rows
 unfolding closing_writes made_all
-block-step n {rows = rows} {l = l} z Closed e h f = sym (shut-block l.block rows (next-closed 0 0 rows e))
-block-step n {l = l} z (Goes i at) e h f =
+block-step n {rows = rows} {l = l} z None e h f = sym (shut-block l.block rows (next-closed 0 0 rows e))
+block-step n {l = l} z (Some (i, at)) e h f =
     ap (λ (x : Lasting). x.block) (made-append (one n z i at) (others n z i at) l)
     ∙ f i at e (omega (arith, apart-less z e)) ∙ due-closed z e
 
@@ -241,7 +239,7 @@ apart-few at (r ∷ rows) = go (eqb r.start at) (apart-few (at + r.octets) rows)
 
 -- greetings closed up leave one gap, behind them
 pub closed-gap : (want size at i : ℕ) (rows : List Row) → 1 ≤ want → at + held rows + want ≤ size
-    → At (i + length rows) (at + held rows) ≡ gap_from want size at i (closed_rows at rows)
+    → Some (i + length rows, at + held rows) ≡ gap_from want size at i (closed_rows at rows)
 unfolding gap_from closed_rows held
 closed-gap want size at i [] w h =
     let z : i + 0 ≡ i = omega arith in

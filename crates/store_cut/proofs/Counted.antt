@@ -11,7 +11,7 @@ use lib.ListN.{length, take, drop, length-append}
 use lib.Dec.{leb}
 use borrow.Author.Tests.{le-leb, lt-leb, leb-true, leb-false}
 use Rattle.store_rows.specs.declared.rows.Row.{Row}
-use Rattle.store_rows.specs.declared.rows.Gap.TheVariants.{At}
+use Rattle.std.specs.Prelude.{Option, Some, None}
 use Rattle.store_rows.specs.Rows.{Kept}
 use Rattle.store_rows.specs.Changed.{nth, written}
 use Rattle.store_greeting.specs.Marks.{Note}
@@ -23,8 +23,6 @@ use Rattle.store_promises.proofs.Promises.{Keeps}
 use Rattle.store_moves.specs.declared.steps.Move.{Move}
 use Rattle.store_moves.specs.declared.steps.State.{State}
 use Rattle.store_moves.specs.declared.steps.State.TheVariants.{Still, Moving, Lifted}
-use Rattle.store_moves.specs.declared.calls.Due.{Due}
-use Rattle.store_moves.specs.declared.calls.Due.TheVariants.{Goes, Closed}
 use Rattle.store_moves.specs.Next.{next_of, moved_at}
 use Rattle.store_moves.specs.Moves.{Lasts, lasts, distance, left, source, place, hop, lift, done_more, onward, stepped, Tells}
 use Rattle.store_moves.proofs.Stepping.{onward-end, onward-more}
@@ -187,13 +185,13 @@ wider-some d spare h = go (leb spare d) refl
     go false e = let k = leb-false spare d e in omega arith
 
 few-step : (n : ℕ) {size page : ℕ} {K : List Kept} {N : List Note} {rows : List Row} {l : Lasting} (z : Rests size K N page rows l)
-    (x : Due) → x ≡ next_of rows
-    → ((i at : ℕ) → Goes i at ≡ next_of rows
+    (x : Option (ℕ × ℕ)) → x ≡ next_of rows
+    → ((i at : ℕ) → Some (i, at) ≡ next_of rows
     → length (others n z i at) ≤ closing_most n (length l.spare) (moved_at i at rows) (next_of (moved_at i at rows)))
     → length (closing_writes (suc n) page l rows N x) ≤ closing_most (suc n) (length l.spare) rows x
 unfolding closing_writes closing_most
-few-step n z Closed e f = omega arith
-few-step n {page = page} {N = N} {rows = rows} {l = l} z (Goes i at) e f =
+few-step n z None e f = omega arith
+few-step n {page = page} {N = N} {rows = rows} {l = l} z (Some (i, at)) e f =
     let t = due-tells z e in
     let r = nth i rows in
     let d : 1 ≤ r.start - at = omega (arith, t.down) in
@@ -225,5 +223,5 @@ pub put-few : {size page : ℕ} {s : Store} {l : Lasting} (k : Keeps size s) (la
     3
 put-few {size} {page} {s} {l} k law x xs z b e =
     let o = put_order k law x xs z b e in
-    let last = put_writes o.last-page o.block-then o.rows_then (notes_for s) law x xs (At o.index o.place) in
+    let last = put_writes o.last-page o.block-then o.rows_then (notes_for s) law x xs (Some (o.index, o.place)) in
     omega (arith, ap length o.is, length-append o.moves last, moves-few z o.moves o.moves-are)

@@ -13,7 +13,7 @@ use lib.Seq.{paste, length-paste, take_at, drop_at, get_or-append-add, append_sn
 use lib.Dec.{eqb, ltb}
 use borrow.Author.Tests.{eqb-true, eqb-false, ltb-true, ltb-false}
 use Rattle.store_rows.specs.declared.rows.Row.{Row}
-use Rattle.store_rows.specs.declared.rows.Gap.TheVariants.{At}
+use Rattle.std.specs.Prelude.{Option, Some, None}
 use Rattle.store_rows.specs.Limits.{largest_block, size_of}
 use Rattle.store_rows.specs.Rows.{row_of, held, Kept, contents}
 use Rattle.store_rows.specs.Finding.{lowest_gap}
@@ -38,8 +38,6 @@ use Rattle.store_promises.proofs.Numbers.{Distinct}
 use Rattle.store_promises.proofs.Sayable.{load-of, early-of}
 use Rattle.store_moves.specs.declared.steps.State.{State}
 use Rattle.store_moves.specs.declared.steps.State.TheVariants.{Still, Moving}
-use Rattle.store_moves.specs.declared.calls.Due.{Due}
-use Rattle.store_moves.specs.declared.calls.Due.TheVariants.{Goes, Closed}
 use Rattle.store_moves.specs.Moves.{Lasts, lasts, finish, ahead, Torn, Tells, sane-moving}
 use Rattle.store_moves.specs.Record.{page_of, words_for, words_of, still_with, Kept as Words, kept, start_of}
 use Rattle.store_moves.specs.Next.{next_from, next_of, replace_at, moved_at}
@@ -201,7 +199,7 @@ module _ {size page : ℕ} {K K' : List Kept} {N N' : List Note} {rows rows' : L
 -- ---- a put
 
 module _ {size page : ℕ} {K : List Kept} {N : List Note} {rows : List Row} {l : Lasting} (z : Rests size K N page rows l)
-    (law number : ℕ) (xs : List ℕ) {i at : ℕ} (e : At i at ≡ lowest_gap (length xs) (min size largest_block) rows)
+    (law number : ℕ) (xs : List ℕ) {i at : ℕ} (e : Some (i, at) ≡ lowest_gap (length xs) (min size largest_block) rows)
     (d : Fine size (contents (written l.block at xs) (insert_at i (row_of number at (length xs)) rows)) (written l.block at xs)
     (insert_at i (row_of number at (length xs)) rows)) where
   gap : Split (length xs) (min size largest_block) 0 0 rows i at
@@ -243,7 +241,7 @@ module _ {size page : ℕ} {K : List Kept} {N : List Note} {rows : List Row} {l 
   abbrev noted : List Note
   noted = insert_note i (note_of law xs) N
 
-  pub put-cut : {l' : Lasting} → Run (put_writes page l.block rows N law number xs (At i at)) l l'
+  pub put-cut : {l' : Lasting} → Run (put_writes page l.block rows N law number xs (Some (i, at))) l l'
       → Either (Bears size K N l') (Bears size later noted l')
   put-cut (cut (cut-block t)) = before (rests-bears (torn-rests t))
   put-cut {l'} (on r) =
@@ -253,7 +251,7 @@ module _ {size page : ℕ} {K : List Kept} {N : List Note} {rows : List Row} {l 
 
   -- made whole
   pub put-made : Rests size later noted (1 - page) (insert_at i (row_of number at (length xs)) rows)
-      (made_all (put_writes page l.block rows N law number xs (At i at)) l)
+      (made_all (put_writes page l.block rows N law number xs (Some (i, at))) l)
   unfolding made_all
   put-made =
       subst (λ (k : ℕ). Rests size later noted (1 - page) (insert_at i (row_of number at (length xs)) rows)
@@ -274,13 +272,13 @@ run-split (w ∷ a) {c} {l} {l'} (on r) = go (run-split a r)
 
 -- ---- the next move: of a greeting behind those that are closed up
 
-abbrev due_index : Due → ℕ
-due_index (Goes i at) = i
-due_index Closed = 0
+abbrev due_index : Option (ℕ × ℕ) → ℕ
+due_index (Some (i, at)) = i
+due_index None = 0
 
-abbrev due_place : Due → ℕ
-due_place (Goes i at) = at
-due_place Closed = 0
+abbrev due_place : Option (ℕ × ℕ) → ℕ
+due_place (Some (i, at)) = at
+due_place None = 0
 
 pub record Away (at i : ℕ) (rows : List Row) (j to : ℕ) : Type 0 where
   pub pre : List Row
@@ -295,16 +293,16 @@ pub record Away (at i : ℕ) (rows : List Row) (j to : ℕ) : Type 0 where
 pub in_place : (at : ℕ) (r : Row) → r.start ≡ at → moved_to at r ≡ r
 in_place at r e = ap (λ (x : ℕ). moved_to x r) (sym e)
 
-no_due : {A : Type 0} {j to : ℕ} → Goes j to ≡ Closed → A
+no_due : {A : Type 0} {j to : ℕ} → ◌≡◌ {A = Option (ℕ × ℕ)} (Some (j, to)) None → A
 no_due e = let z : ◌≡◌ {A = ℕ} 0 1 = cc in absurd (omega arith)
 
-pub next-away : (i at : ℕ) (rows : List Row) {j to : ℕ} → Goes j to ≡ next_from i at rows → Away at i rows j to
+pub next-away : (i at : ℕ) (rows : List Row) {j to : ℕ} → Some (j, to) ≡ next_from i at rows → Away at i rows j to
 unfolding next_from closed_rows held
 next-away i at [] e = no_due e
 next-away i at (r ∷ rows) {j} {to} e = go (λ q. next-away (i + 1) (at + r.octets) rows q) (eqb r.start at) refl e
   where
-    go : (Goes j to ≡ next_from (i + 1) (at + r.octets) rows → Away (at + r.octets) (i + 1) rows j to) → (x : Bool) → eqb r.start at ≡ x
-        → Goes j to ≡ cond x (next_from (i + 1) (at + r.octets) rows) (Goes i at) → Away at i (r ∷ rows) j to
+    go : (Some (j, to) ≡ next_from (i + 1) (at + r.octets) rows → Away (at + r.octets) (i + 1) rows j to) → (x : Bool) → eqb r.start at ≡ x
+        → Some (j, to) ≡ cond x (next_from (i + 1) (at + r.octets) rows) (Some (i, at)) → Away at i (r ∷ rows) j to
     go more true h q =
         let w = more q in
         record {
@@ -502,7 +500,7 @@ strictly a b h f = go (ltb a b) refl
 
 -- the next move of a store at rest
 module _ {size page : ℕ} {K : List Kept} {N : List Note} {rows : List Row} {l : Lasting} {i at : ℕ} (z : Rests size K N page rows l)
-    (e : Goes i at ≡ next_of rows) where
+    (e : Some (i, at) ≡ next_of rows) where
   abbrev due : Away 0 0 rows i at
   due = next-away 0 0 rows e
 
@@ -568,12 +566,12 @@ module _ (n : ℕ) {size page : ℕ} {K : List Kept} {N : List Note} {rows : Lis
   abbrev pub others : ℕ → ℕ → List Write
   others i at = closing_writes n (1 - page) (made_all (one i at) l) (moved_at i at rows) N (next_of (moved_at i at rows))
 
-  closing-step : {l' : Lasting} (x : Due) → x ≡ next_of rows
-      → ((i at : ℕ) → Goes i at ≡ next_of rows → Run (others i at) (made_all (one i at) l) l' → Bears size K N l')
+  closing-step : {l' : Lasting} (x : Option (ℕ × ℕ)) → x ≡ next_of rows
+      → ((i at : ℕ) → Some (i, at) ≡ next_of rows → Run (others i at) (made_all (one i at) l) l' → Bears size K N l')
       → Run (closing_writes (suc n) page l rows N x) l l' → Bears size K N l'
   unfolding closing_writes
-  closing-step Closed e f all = rests-bears z
-  closing-step (Goes i at) e f q = by-either (λ x. due-cut z e x) (λ x. f i at e x) (run-split (one i at) q)
+  closing-step None e f all = rests-bears z
+  closing-step (Some (i, at)) e f q = by-either (λ x. due-cut z e x) (λ x. f i at e x) (run-split (one i at) q)
 
 pub closing-cut : (n : ℕ) {size page : ℕ} {K : List Kept} {N : List Note} {rows : List Row} {l l' : Lasting} → Rests size K N page rows l
     → Run (closing_writes n page l rows N (next_of rows)) l l' → Bears size K N l'
@@ -593,14 +591,14 @@ pub record Ends (size : ℕ) (K : List Kept) (N : List Note) (rows : List Row) (
 
 -- all moves made
 ends-step : (n : ℕ) {size page : ℕ} {K : List Kept} {N : List Note} {rows : List Row} {l : Lasting} (z : Rests size K N page rows l)
-    (x : Due)
+    (x : Option (ℕ × ℕ))
     → x ≡ next_of rows
-    → ((i at : ℕ) → Goes i at ≡ next_of rows
+    → ((i at : ℕ) → Some (i, at) ≡ next_of rows
     → Ends size K N (closing_rows n (moved_at i at rows) (next_of (moved_at i at rows))) (made_all (others n z i at) (made_all (one n z i at) l)))
     → Ends size K N (closing_rows (suc n) rows x) (made_all (closing_writes (suc n) page l rows N x) l)
 unfolding closing_writes closing_rows made_all
-ends-step n {page = page} z Closed e f = record { page = page; rests = z }
-ends-step n {size} {page} {K} {N} {rows} {l} z (Goes i at) e f =
+ends-step n {page = page} z None e f = record { page = page; rests = z }
+ends-step n {size} {page} {K} {N} {rows} {l} z (Some (i, at)) e f =
     subst (λ (x : Lasting). Ends size K N (closing_rows n (moved_at i at rows) (next_of (moved_at i at rows))) x)
     (sym (made-append (one n z i at) (others n z i at) l)) (f i at e)
 

@@ -38,8 +38,7 @@ use Rattle.store_promises.proofs.Long.{text-most}
 use Rattle.store_promises.proofs.Promises.{Keeps, call_kept}
 use Rattle.store_moves.specs.declared.steps.State.{State}
 use Rattle.store_moves.specs.declared.steps.State.TheVariants.{Still, Moving, Lifted}
-use Rattle.store_moves.specs.declared.calls.Due.{Due}
-use Rattle.store_moves.specs.declared.calls.Due.TheVariants.{Goes as Next, Closed}
+use Rattle.std.specs.Prelude.{Option, Some, None}
 use Rattle.store_moves.specs.Moves.{Lasts, lasts, source, place, direct, hop, lift, onward, step, ahead}
 use Rattle.store_moves.specs.Record.{told, page_of, words_of}
 use Rattle.store_moves.specs.Next.{next_of, moved_at, Changed, changes, not-next, refused as declined}
@@ -325,11 +324,11 @@ module _ {size room : ℕ} (enough : Enough size room) (t : List ℕ) (c : store
       (f, steps-fit room (2 * r.octets) page (lasts l.block l.spare (Moving (begun to r))))
 
   closing-turn : (n : ℕ) {page : ℕ} {K : List Kept} {N : List Note} {rows : List Row} {l : Lasting} (z : Rests size K N page rows l)
-      → Good K N → True K N → (x : Due) → x ≡ next_of rows
-      → ((i at : ℕ) → Next i at ≡ next_of rows → Fits room (others n z i at)) → Fits room (closing_writes (suc n) page l rows N x)
+      → Good K N → True K N → (x : Option (ℕ × ℕ)) → x ≡ next_of rows
+      → ((i at : ℕ) → Some (i, at) ≡ next_of rows → Fits room (others n z i at)) → Fits room (closing_writes (suc n) page l rows N x)
   unfolding Fits closing_writes
-  closing-turn n z g m Closed e f = tt
-  closing-turn n {page} {K} {N} {rows} {l} z g m (Next i at) e f =
+  closing-turn n z g m None e f = tt
+  closing-turn n {page} {K} {N} {rows} {l} z g m (Some (i, at)) e f =
       fits-append room (one n z i at) (others n z i at)
       (move-fits page l (nth i rows) at (moved_at i at rows) N (rests-fit (length l.block) z.fine.long (due-made z e) g m)) (f i at e)
 

@@ -11,8 +11,7 @@ use lib.ListN.{length, get_or}
 use borrow.Author.Tests.{ne_eqb, leb-true}
 use Rattle.rules.specs.Tools.{most_law}
 use Rattle.store_rows.specs.declared.rows.Row.{Row}
-use Rattle.store_rows.specs.declared.rows.Gap.{Gap}
-use Rattle.store_rows.specs.declared.rows.Gap.TheVariants.{At, Nowhere}
+use Rattle.std.specs.Prelude.{Option, Some, None}
 use Rattle.store_rows.specs.Limits.{largest_block, size_of}
 use Rattle.store_rows.specs.Rows.{held, Kept, contents}
 use Rattle.store_rows.specs.Finding.{absent, lowest_gap}
@@ -22,10 +21,9 @@ use Rattle.store_rows.proofs.Closed.{length-closed}
 use Rattle.store_greeting.specs.Marks.{Note}
 use Rattle.store_notes.specs.Cells.{notes_of}
 use Rattle.store.specs.declared.Refusal.{Refusal}
-use Rattle.store.specs.declared.Answer.{Answer}
-use Rattle.store.specs.declared.Answer.TheVariants.{Done}
+use Rattle.std.specs.Prelude.{Ok}
 use Rattle.store.specs.Store.{Outcome, leaves, refused, After, put_at, put_in}
-use Rattle.store.specs.Calls.{first_of, answer_of, put_of, block_after, table_after}
+use Rattle.store.specs.Calls.{Answer, first_of, answer_of, put_of, block_after, table_after}
 use Rattle.store_promises.specs.Told.{putting, Store, rows_in, notes_for, see}
 use Rattle.store_promises.proofs.Rising.{held-closed}
 use Rattle.store_promises.proofs.Numbers.{fresh-of, absent-of, fresh-closed}
@@ -48,7 +46,7 @@ pub page-of : {size page : ℕ} {K : List Kept} {N : List Note} {rows : List Row
     → page_of l.words ≡ page
 page-of z = ap (λ (w : List ℕ). get_or w 0 0) z.words
 
-no_gap : {A : Type 0} {i at : ℕ} → At i at ≡ Nowhere → A
+no_gap : {A : Type 0} {i at : ℕ} → ◌≡◌ {A = Option (ℕ × ℕ)} (Some (i, at)) None → A
 no_gap e = let z : ◌≡◌ {A = ℕ} 0 1 = cc in absurd (omega arith)
 
 -- the order of writes of a put that is accepted
@@ -59,7 +57,7 @@ pub record Order (size page : ℕ) (s : Store) (l : Lasting) (law x : ℕ) (xs :
   pub block-then : List ℕ
   pub index : ℕ
   pub place : ℕ
-  pub is : ws ≡ moves ++ put_writes last-page block-then rows_then (notes_for s) law x xs (At index place)
+  pub is : ws ≡ moves ++ put_writes last-page block-then rows_then (notes_for s) law x xs (Some (index, place))
   pub laid : Laid law x xs s block-then rows_then index place
   pub long : length block-then ≡ size
   pub moves-are : Either (moves ≡ []) (moves ≡ closing_writes (length (rows_in s)) page l (rows_in s) (notes_for s) (next_of (rows_in s)))
@@ -83,25 +81,25 @@ module _ {size page : ℕ} {s : Store} {l : Lasting} (k : Keeps size s) (law x :
   sized = ap (λ (y : ℕ). min y largest_block) (sym k.long)
 
   -- ---- a gap is found
-  module _ {i at : ℕ} (g : At i at ≡ lowest_gap (length xs) (size_of s.block) rows) where
-    gap : At i at ≡ lowest_gap (length xs) (min size largest_block) rows
-    gap = subst (λ (y : ℕ). At i at ≡ lowest_gap (length xs) y rows) (sym sized) g
+  module _ {i at : ℕ} (g : Some (i, at) ≡ lowest_gap (length xs) (size_of s.block) rows) where
+    gap : Some (i, at) ≡ lowest_gap (length xs) (min size largest_block) rows
+    gap = subst (λ (y : ℕ). Some (i, at) ≡ lowest_gap (length xs) y rows) (sym sized) g
 
     none-moved : a.second ≡ 0
     none-moved =
         ap (λ (y : After). y.second) granted.is
-        ∙ ap (λ (d : Gap). (put_at s.block rows (notes_for s) law x xs d).second) (sym g)
+        ∙ ap (λ (d : Option (ℕ × ℕ)). (put_at s.block rows (notes_for s) law x xs d).second) (sym g)
 
     here : Laid law x xs s l.block rows i at
     here = subst (λ (y : List ℕ). Laid law x xs s y rows i at) b (laid-gap law x xs e g)
 
-    gap-writes : putting_writes l s law x xs (leaves a) ≡ put_writes page l.block rows (notes_for s) law x xs (At i at)
+    gap-writes : putting_writes l s law x xs (leaves a) ≡ put_writes page l.block rows (notes_for s) law x xs (Some (i, at))
     unfolding putting_writes put_by closes_up rows_then_by put_then made_all
     gap-writes =
         ap (λ (m : ℕ). put_by m l rows (notes_for s) law x xs) none-moved
         ∙ ap (λ (p : ℕ). put_writes p l.block rows (notes_for s) law x xs (lowest_gap (length xs) (size_of l.block) rows)) (page-of z)
-        ∙ ap (λ (d : Gap). put_writes page l.block rows (notes_for s) law x xs d)
-        (sym (subst (λ (y : List ℕ). At i at ≡ lowest_gap (length xs) (size_of y) rows) b g))
+        ∙ ap (λ (d : Option (ℕ × ℕ)). put_writes page l.block rows (notes_for s) law x xs d)
+        (sym (subst (λ (y : List ℕ). Some (i, at) ≡ lowest_gap (length xs) (size_of y) rows) b g))
 
     gap-cut : {l' : Lasting} → Run (putting_writes l s law x xs (leaves a)) l l'
         → Either (Bears size (contents_of s) (notes_for s) l') (Bears size (contents_of next) (notes_for next) l')
@@ -110,16 +108,16 @@ module _ {size page : ℕ} {s : Store} {l : Lasting} (k : Keeps size s) (law x :
     gap-made : Made size next (made_all (putting_writes l s law x xs (leaves a)) l)
     gap-made = subst (λ (ws : List Write). Made size next (made_all ws l)) (sym gap-writes) (last_made k law x xs z gap here)
 
-    gap-tells : put_tells l s law x xs (leaves a) ≡ Done a.first a.second
+    gap-tells : put_tells l s law x xs (leaves a) ≡ Ok (a.first, a.second)
     unfolding last_put closes_up rows_then_by sum_then made_all
     gap-tells =
         let in_block : put_in s.block (size_of s.block) rows (notes_for s) law x xs ≡ leaves a = rw granted.sane at e in
         let same = subst (λ (y : List ℕ). put_in y (size_of y) rows (notes_for s) law x xs ≡ leaves a) b in_block in
-        ap (λ (m : ℕ). Done (first_of (last_put m l rows (notes_for s) law x xs)) (sum_then m rows)) none-moved
-        ∙ ap (λ (o : Outcome). Done (first_of (answer_of o)) 0) same ∙ ap (λ (m : ℕ). Done a.first m) (sym none-moved)
+        ap {B = Answer} (λ (m : ℕ). Ok (first_of (last_put m l rows (notes_for s) law x xs), sum_then m rows)) none-moved
+        ∙ ap {B = Answer} (λ (o : Outcome). Ok (first_of (answer_of o), 0)) same ∙ ap {B = Answer} (λ (m : ℕ). Ok (a.first, m)) (sym none-moved)
 
   -- ---- none is: all close up first
-  module _ (g : Nowhere ≡ lowest_gap (length xs) (size_of s.block) rows) where
+  module _ (g : None ≡ lowest_gap (length xs) (size_of s.block) rows) where
     abbrev moves : List Write
     moves = closing_writes (length rows) page l rows (notes_for s) (next_of rows)
 
@@ -139,14 +137,14 @@ module _ {size page : ℕ} {s : Store} {l : Lasting} (k : Keeps size s) (law x :
     block_closed =
         ap (λ (y : List ℕ). closed_block y rows) b ∙ sym (closing-block (length rows) z (apart-few 0 rows))
 
-    behind : (size' : ℕ) → size' ≡ size_of s.block → At (length rows) (held rows) ≡ lowest_gap (length xs) size' (closed_rows 0 rows)
+    behind : (size' : ℕ) → size' ≡ size_of s.block → Some (length rows, held rows) ≡ lowest_gap (length xs) size' (closed_rows 0 rows)
     behind size' q =
         let room = granted.room in
         let y : 0 + length rows ≡ length rows = omega arith in
         let v : 0 + held rows ≡ held rows = omega arith in
         rw (y, v) at (closed-gap (length xs) size' 0 0 rows some (omega arith))
 
-    gap₁ : (size' : ℕ) → size' ≡ size_of s.block → At (length rows) (held rows) ≡ lowest_gap (length xs) size' rows₁
+    gap₁ : (size' : ℕ) → size' ≡ size_of s.block → Some (length rows, held rows) ≡ lowest_gap (length xs) size' rows₁
     gap₁ size' q = rw rows-closed (behind size' q)
 
     there : Laid law x xs s shut.block rows₁ (length rows) (held rows)
@@ -158,17 +156,17 @@ module _ {size page : ℕ} {s : Store} {l : Lasting} (k : Keeps size s) (law x :
     all_moved : a.second ≡ moved_from 0 rows
     all_moved =
         ap (λ (y : After). y.second) granted.is
-        ∙ ap (λ (d : Gap). (put_at s.block rows (notes_for s) law x xs d).second) (sym g)
+        ∙ ap (λ (d : Option (ℕ × ℕ)). (put_at s.block rows (notes_for s) law x xs d).second) (sym g)
 
     some-moved : a.second ≡ 0 → ⊥
     some-moved q =
         let o = sane-rows (size_of s.block) s.table granted.sane in
         let c = unmoved 0 0 (size_of s.block) rows o.rises (sym all_moved ∙ q) in
-        no_gap (subst (λ (rs : List Row). At (length rows) (held rows) ≡ lowest_gap (length xs) (size_of s.block) rs) c
+        no_gap (subst (λ (rs : List Row). Some (length rows, held rows) ≡ lowest_gap (length xs) (size_of s.block) rs) c
         (behind (size_of s.block) refl) ∙ sym g)
 
     abbrev last : List Write
-    last = put_writes ends.page shut.block rows₁ (notes_for s) law x xs (At (length rows) (held rows))
+    last = put_writes ends.page shut.block rows₁ (notes_for s) law x xs (Some (length rows, held rows))
 
     same_size : size_of shut.block ≡ size_of s.block
     same_size = ap (λ (y : ℕ). min y largest_block) (ends.rests.fine.long ∙ sym k.long)
@@ -188,7 +186,7 @@ module _ {size page : ℕ} {s : Store} {l : Lasting} (k : Keeps size s) (law x :
     last-writes =
         ap (λ (p : ℕ). put_writes p shut.block rows₁ (notes_for s) law x xs (lowest_gap (length xs) (size_of shut.block) rows₁))
         (page-of ends.rests)
-        ∙ ap (λ (d : Gap). put_writes ends.page shut.block rows₁ (notes_for s) law x xs d) (sym (gap₁ (size_of shut.block) same_size))
+        ∙ ap (λ (d : Option (ℕ × ℕ)). put_writes ends.page shut.block rows₁ (notes_for s) law x xs d) (sym (gap₁ (size_of shut.block) same_size))
 
     closing-writes : putting_writes l s law x xs (leaves a) ≡ moves ++ last
     unfolding putting_writes put_by
@@ -214,7 +212,7 @@ module _ {size page : ℕ} {s : Store} {l : Lasting} (k : Keeps size s) (law x :
         (last_made k law x xs ends.rests (gap₁ (min size largest_block) sized) there)
 
     -- the last put moves nothing, and lies behind all
-    last-tells : answer_of (put_in shut.block (size_of shut.block) rows₁ (notes_for s) law x xs) ≡ Done (held rows) 0
+    last-tells : answer_of (put_in shut.block (size_of shut.block) rows₁ (notes_for s) law x xs) ≡ Ok (held rows, 0)
     last-tells =
         let g₁ = granted in
         let n = size_of shut.block in
@@ -224,27 +222,27 @@ module _ {size page : ℕ} {s : Store} {l : Lasting} (k : Keeps size s) (law x :
         (absent-of x (closed_rows 0 rows) (fresh-closed x 0 rows (fresh-of x rows g₁.fresh))) in
         tried-put shut.block n rows₁ (notes_for s) law x xs
         ∙ sym (tried-fits n rows₁ law x xs (leb-true law most_law g₁.lawful) g₁.number free g₁.good few room refl)
-        ∙ ap (λ (d : Gap). gap_tells rows₁ d) (sym (gap₁ n same_size))
+        ∙ ap (λ (d : Option (ℕ × ℕ)). gap_tells rows₁ d) (sym (gap₁ n same_size))
 
-    closing-tells : put_tells l s law x xs (leaves a) ≡ Done a.first a.second
+    closing-tells : put_tells l s law x xs (leaves a) ≡ Ok (a.first, a.second)
     unfolding last_put sum_then
     closing-tells =
         let start : a.first ≡ held rows =
-        ap (λ (y : After). y.first) granted.is ∙ ap (λ (d : Gap). (put_at s.block rows (notes_for s) law x xs d).first) (sym g) in
+        ap (λ (y : After). y.first) granted.is ∙ ap (λ (d : Option (ℕ × ℕ)). (put_at s.block rows (notes_for s) law x xs d).first) (sym g) in
         let sum : sum_then a.second rows ≡ a.second =
         rw (ne_eqb a.second 0 some-moved) ((moves-close (length rows) rows (apart-few 0 rows)).sum ∙ sym all_moved) in
-        let last-put : last_put a.second l rows (notes_for s) law x xs ≡ Done (held rows) 0 =
+        let last-put : last_put a.second l rows (notes_for s) law x xs ≡ Ok (held rows, 0) =
         ap (λ (ws : List Write). answer_of (put_in (made_all ws l).block (size_of (made_all ws l).block) (rows_then_by a.second rows)
         (notes_for s)
         law x xs)) closing-moves
         ∙ ap (λ (rs : List Row). answer_of (put_in shut.block (size_of shut.block) rs (notes_for s) law x xs)) rows_then ∙ last-tells in
-        ap (λ (r : Answer). Done (first_of r) (sum_then a.second rows)) last-put
-        ∙ ap (λ (m : ℕ). Done m (sum_then a.second rows)) (sym start) ∙ ap (λ (m : ℕ). Done a.first m) sum
+        ap {B = Answer} (λ (r : Answer). Ok (first_of r, sum_then a.second rows)) last-put
+        ∙ ap {B = Answer} (λ (m : ℕ). Ok (m, sum_then a.second rows)) (sym start) ∙ ap {B = Answer} (λ (m : ℕ). Ok (a.first, m)) sum
 
   -- ---- either: the moves, if any, and the last writes
-  order-of : (p : Gap) → p ≡ lowest_gap (length xs) (size_of s.block) rows
+  order-of : (p : Option (ℕ × ℕ)) → p ≡ lowest_gap (length xs) (size_of s.block) rows
       → Order size page s l law x xs (putting_writes l s law x xs (leaves a))
-  order-of (At i at) g =
+  order-of (Some (i, at)) g =
       record {
         moves = [];
         last-page = page;
@@ -257,7 +255,7 @@ module _ {size page : ℕ} {s : Store} {l : Lasting} (k : Keeps size s) (law x :
         long = z.fine.long;
         moves-are = before refl;
       }
-  order-of Nowhere g =
+  order-of None g =
       record {
         moves = moves g;
         last-page = (ends g).page;
@@ -271,21 +269,21 @@ module _ {size page : ℕ} {s : Store} {l : Lasting} (k : Keeps size s) (law x :
         moves-are = after refl;
       }
 
-  granted-cut : {l' : Lasting} (p : Gap) → p ≡ lowest_gap (length xs) (size_of s.block) rows
+  granted-cut : {l' : Lasting} (p : Option (ℕ × ℕ)) → p ≡ lowest_gap (length xs) (size_of s.block) rows
       → Run (putting_writes l s law x xs (leaves a)) l l'
       → Either (Bears size (contents_of s) (notes_for s) l') (Bears size (contents_of next) (notes_for next) l')
-  granted-cut (At i at) g r = gap-cut g r
-  granted-cut Nowhere g r = closing-put-cut g r
+  granted-cut (Some (i, at)) g r = gap-cut g r
+  granted-cut None g r = closing-put-cut g r
 
-  granted-made : (p : Gap) → p ≡ lowest_gap (length xs) (size_of s.block) rows
+  granted-made : (p : Option (ℕ × ℕ)) → p ≡ lowest_gap (length xs) (size_of s.block) rows
       → Made size next (made_all (putting_writes l s law x xs (leaves a)) l)
-  granted-made (At i at) g = gap-made g
-  granted-made Nowhere g = closing-put-made g
+  granted-made (Some (i, at)) g = gap-made g
+  granted-made None g = closing-put-made g
 
-  granted-tells : (p : Gap) → p ≡ lowest_gap (length xs) (size_of s.block) rows
-      → put_tells l s law x xs (leaves a) ≡ Done a.first a.second
-  granted-tells (At i at) g = gap-tells g
-  granted-tells Nowhere g = closing-tells g
+  granted-tells : (p : Option (ℕ × ℕ)) → p ≡ lowest_gap (length xs) (size_of s.block) rows
+      → put_tells l s law x xs (leaves a) ≡ Ok (a.first, a.second)
+  granted-tells (Some (i, at)) g = gap-tells g
+  granted-tells None g = closing-tells g
 
   pub put_order : Order size page s l law x xs (putting_writes l s law x xs (leaves a))
   put_order = order-of (lowest_gap (length xs) (size_of s.block) rows) refl

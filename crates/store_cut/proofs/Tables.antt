@@ -37,7 +37,7 @@ use Rattle.store_promises.proofs.Numbers.{FoundAt, find-split}
 use Rattle.store_promises.proofs.Granted.{low-number, high-number}
 use Rattle.store_promises.proofs.Loaded.{true-matched}
 use Rattle.store_promises.proofs.Promises.{Keeps}
-use Rattle.store_moves.specs.declared.calls.Due.TheVariants.{Goes}
+use Rattle.std.specs.Prelude.{Some}
 use Rattle.store_moves.specs.Next.{next_of, replace_at, moved_at, renumbered_to, renumbered_at, changes, refused, moved_in, renumber_in}
 use Rattle.store_moves.specs.Calls.{moved_of}
 use Rattle.store_moves.proofs.Calling.{number_is, moved-there}
@@ -157,7 +157,7 @@ absent-among (a ∷ pre) r post = go (eqb a.number r.number) (absent-among pre r
     go false e = e
 
 -- "number, .., to" as `next` tells them: `moved` takes them, and leaves the table with that greeting there
-pub next-moved : {size i at : ℕ} {s : Store} → Keeps size s → Goes i at ≡ next_of (rows_in s)
+pub next-moved : {size i at : ℕ} {s : Store} → Keeps size s → Some (i, at) ≡ next_of (rows_in s)
     → moved_of s.block s.table (nth i (rows_in s)).number at ≡ changes (moved_at i at (rows_in s))
 next-moved {size} {i} {at} {s} k e =
     let rows = rows_in s in

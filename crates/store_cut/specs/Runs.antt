@@ -8,10 +8,9 @@ use Rattle.store_rows.specs.Finding.{lowest_gap}
 use Rattle.store_rows.specs.Cells.{laid}
 use Rattle.store_greeting.specs.Marks.{Note}
 use Rattle.store_notes.specs.Cells.{stored}
-use Rattle.store.specs.declared.Answer.{Answer}
-use Rattle.store.specs.declared.Answer.TheVariants.{Done, Refused}
+use Rattle.std.specs.Prelude.{Ok, Err}
 use Rattle.store.specs.Store.{Outcome, leaves, refused, After, put_in}
-use Rattle.store.specs.Calls.{first_of, answer_of, put_of, delete_of}
+use Rattle.store.specs.Calls.{Answer, first_of, answer_of, put_of, delete_of}
 use Rattle.store_save.specs.Saved.{load_of}
 use Rattle.store_promises.specs.Told.{putting, deleting, loading, Store, rows_in, notes_for, see}
 use Rattle.store_moves.specs.Moves.{lasts, ahead}
@@ -79,9 +78,9 @@ last_put moved l rows notes law number xs =
     answer_of (put_in m.block (size_of m.block) (rows_then_by moved rows) notes law number xs)
 
 abbrev pub put_tells : Lasting → Store → ℕ → ℕ → List ℕ → Outcome → Answer
-put_tells l s law number xs (refused w) = Refused w
+put_tells l s law number xs (refused w) = Err w
 put_tells l s law number xs (leaves a) =
-    Done (first_of (last_put a.second l (rows_in s) (notes_for s) law number xs)) (sum_then a.second (rows_in s))
+    Ok (first_of (last_put a.second l (rows_in s) (notes_for s) law number xs), sum_then a.second (rows_in s))
 
 -- "a delete: where it refuses, nothing is written; the text to the other page, then the record"
 unfoldable pub deleting_writes : Lasting → Outcome → List Write

@@ -1,8 +1,7 @@
 -- "The order of writes, which is what is promised". What a call has in hand besides what lasts are the greetings' rows and notes.
 use Rattle.std.specs.Prelude.{ℕ, zero, suc, ◌-◌, ◌*◌, min, List, [], ◌∷◌, ◌++◌, cond, length, take, drop}
 use Rattle.store_rows.specs.declared.rows.Row.{Row}
-use Rattle.store_rows.specs.declared.rows.Gap.{Gap}
-use Rattle.store_rows.specs.declared.rows.Gap.TheVariants.{At, Nowhere}
+use Rattle.std.specs.Prelude.{Option, Some, None}
 use Rattle.store_rows.specs.Limits.{largest_block}
 use Rattle.store_rows.specs.Rows.{row_of}
 use Rattle.store_rows.specs.Changed.{nth, insert_at}
@@ -13,8 +12,6 @@ use Rattle.store_text.specs.Form.{saved_text}
 use Rattle.store_moves.specs.declared.steps.Move.{Move}
 use Rattle.store_moves.specs.declared.steps.State.{State}
 use Rattle.store_moves.specs.declared.steps.State.TheVariants.{Still, Moving, Lifted}
-use Rattle.store_moves.specs.declared.calls.Due.{Due}
-use Rattle.store_moves.specs.declared.calls.Due.TheVariants.{Goes, Closed}
 use Rattle.store_moves.specs.Moves.{Lasts, lasts, place, source, direct, hop, lift, onward, step}
 use Rattle.store_moves.specs.Record.{words_for, words_of, still_with}
 use Rattle.store_moves.specs.Next.{next_of, moved_at}
@@ -49,10 +46,10 @@ move_writes page l r to rows' notes =
     ∷ steps_writes (2 * r.octets) page (lasts l.block l.spare (Moving (begun to r)))
 
 -- "moves until `next` has none"
-unfoldable pub closing_writes : ℕ → ℕ → Lasting → List Row → List Note → Due → List Write
+unfoldable pub closing_writes : ℕ → ℕ → Lasting → List Row → List Note → Option (ℕ × ℕ) → List Write
 closing_writes zero page l rows notes due = []
-closing_writes (suc n) page l rows notes Closed = []
-closing_writes (suc n) page l rows notes (Goes i at) =
+closing_writes (suc n) page l rows notes None = []
+closing_writes (suc n) page l rows notes (Some (i, at)) =
     let ws = move_writes page l (nth i rows) at (moved_at i at rows) notes in
     let rows' = moved_at i at rows in
     ws ++ closing_writes n (1 - page) (made_all ws l) rows' notes (next_of rows')
@@ -62,8 +59,8 @@ abbrev pub turn_writes : ℕ → List ℕ → List Write
 turn_writes page text = to-page (1 - page) text ∷ to-record (still_with (1 - page)) ∷ []
 
 -- "then `put`, which moves nothing now (its octets lie in no greeting)"
-abbrev pub put_writes : ℕ → List ℕ → List Row → List Note → ℕ → ℕ → List ℕ → Gap → List Write
-put_writes page b rows notes law number xs (At i at) =
+abbrev pub put_writes : ℕ → List ℕ → List Row → List Note → ℕ → ℕ → List ℕ → Option (ℕ × ℕ) → List Write
+put_writes page b rows notes law number xs (Some (i, at)) =
     to_block at xs ∷ turn_writes page (text_of (length b) (insert_at i (row_of number at (length xs)) rows)
     (insert_note i (note_of law xs) notes))
-put_writes page b rows notes law number xs Nowhere = []
+put_writes page b rows notes law number xs None = []

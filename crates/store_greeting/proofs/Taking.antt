@@ -11,8 +11,8 @@ use lib.Seq.{drop_at}
 use lib.Dec.{ltb}
 use borrow.Author.Tests.{le-ltb, ltb-true, ltb-false}
 use Rattle.rules.specs.declared.Refusal.{Refusal}
-use Rattle.rules.specs.declared.Ending.{Ending}
-use Rattle.rules.specs.declared.Ending.TheVariants.{Done, Refused}
+use Rattle.rules.specs.Refusals.{Ending}
+use Rattle.std.proofs.Common.{Ok, Err, Option, Some, None}
 use Rattle.rules.specs.declared.WalkAnswer.{WalkAnswer}
 use Rattle.rules.specs.Tools.{most_law}
 use Rattle.rules.specs.Walk.{Delivered, Walked, stopped, walk_from, longest, octets_kept, samples_kept}
@@ -20,21 +20,21 @@ use Rattle.rules.proofs.Walk.{after, samples_kept-append, Told, walk-told, walk-
 use Rattle.walk.specs.Counting.{Counts}
 use Rattle.store_greeting.specs.Bad.{is_bad, walk_of, store_set}
 use Rattle.store_greeting.proofs.Bad.{walk-of}
-use Rattle.store_greeting.specs.declared.marks.Tally.TheVariants.{Wrong, Counted}
+use Rattle.store_greeting.specs.declared.marks.Tally.{Tally}
 use Rattle.store_greeting.specs.Marks.{Mark, mark_of, marks_from, marks_of, mark_cells, note_of}
 use Rattle.store_greeting.specs.Taking.{counted_of, tally_of, Takes, Keeps}
 use Rattle.store_greeting.proofs.Marked.{marks-append, marks-one, cells-more, length-cells, two-set}
 
 -- a greeting whose walk is refused, and one whose walk is not
-bad-off : (law : ℕ) (xs : List ℕ) → 1 ≤ length xs → {r : Refusal} → (walk_of law xs).end ≡ Refused r → is_bad law xs ≡ true
+bad-off : (law : ℕ) (xs : List ℕ) → 1 ≤ length xs → {r : Refusal} → (walk_of law xs).end ≡ Err r → is_bad law xs ≡ true
 unfolding is_bad
 bad-off law xs h e = rw (le-ltb (length xs) 1 h, e)
 
-good-done : (law : ℕ) (xs : List ℕ) → 1 ≤ length xs → (walk_of law xs).end ≡ Done → is_bad law xs ≡ false
+good-done : (law : ℕ) (xs : List ℕ) → 1 ≤ length xs → (walk_of law xs).end ≡ Ok tt → is_bad law xs ≡ false
 unfolding is_bad
 good-done law xs h e = rw (le-ltb (length xs) 1 h, e)
 
-pub takes-wrong : (law : ℕ) (xs cells cells' : List ℕ) → is_bad law xs ≡ true → Takes law xs cells cells' Wrong
+pub takes-wrong : (law : ℕ) (xs cells cells' : List ℕ) → is_bad law xs ≡ true → Takes law xs cells cells' None
 unfolding tally_of
 takes-wrong law xs cells cells' e = record { answer = rw e; lent = λ g _. let z : ◌≡◌ {A = Bool} true false = sym e ∙ g in cc }
 
@@ -48,7 +48,7 @@ module _ (law : ℕ) (xs : List ℕ) where
   next at = walk_from 64 xs law store_set at 20480
 
   pub record Along (m at samples : ℕ) : Type 0 where
-    pub clean : (parts m).end ≡ Done
+    pub clean : (parts m).end ≡ Ok tt
     pub place : at ≡ (parts m).place
     pub before : samples ≡ length (samples_kept (parts m).frames)
     pub count : length (marks_of (parts m).frames) ≡ m
@@ -88,7 +88,7 @@ module _ (law : ℕ) (xs : List ℕ) where
           (ap (λ (k : ℕ). walk_from 64 xs law store_set k room) (sym w.place)
           ∙ walk-roomy xs law store_set 64 at room 20480 (omega (arith, along-samples, w.before)) (omega arith))
 
-      module _ (d : (next at).end ≡ Done) where
+      module _ (d : (next at).end ≡ Ok tt) where
         next-told : Told xs law store_set 64 at 20480 (next at)
         next-told = walk-told xs law store_set 64 at 20480
 
@@ -143,19 +143,19 @@ module _ (law : ℕ) (xs : List ℕ) where
           (omega arith) (omega arith)
 
       -- a frame that is refused
-      pub along-wrong : (h : at < length xs) {r : Refusal} → (next at).end ≡ Refused r → is_bad law xs ≡ true
+      pub along-wrong : (h : at < length xs) {r : Refusal} → (next at).end ≡ Err r → is_bad law xs ≡ true
       along-wrong h {r} d =
           let off = ap (λ (x : Walked). x.end) (along-next h) ∙ d in
           let all = whole (64 * (m + 1)) ∙ walk_kept xs law store_set (64 * (m + 1)) (length xs + 1) 0 (320 * length xs) off in
           bad-off law xs (omega arith) (ap (λ (x : Walked). x.end) all ∙ off)
 
       -- the greeting's end
-      pub along-all : length xs ≤ at → walk_of law xs ≡ after (parts m).frames (stopped Done at 0)
+      pub along-all : length xs ≤ at → walk_of law xs ≡ after (parts m).frames (stopped (Ok tt) at 0)
       along-all h =
           whole (64 * m) ∙ walk-on xs law store_set (64 * m) (length xs + 1) 0 (320 * length xs) w.clean
           ∙ ap (λ (x : Walked). after (parts m).frames x)
           (walk-ended xs law store_set (length xs + 1) (parts m).place (320 * length xs - length (samples_kept (parts m).frames))
-          (omega (arith, w.place)) ∙ ap (λ (k : ℕ). stopped Done k 0) (sym w.place))
+          (omega (arith, w.place)) ∙ ap (λ (k : ℕ). stopped (Ok tt) k 0) (sym w.place))
 
       -- the greeting's marks begin with those of what was walked
       ahead : Ahead m
@@ -171,12 +171,12 @@ module _ (law : ℕ) (xs : List ℕ) where
 
       -- of a greeting that is not BAD: the marks after those of what was walked
       module _ (f : is_bad law xs ≡ false) where
-        pub next-clean : at < length xs → (next at).end ≡ Done
+        pub next-clean : at < length xs → (next at).end ≡ Ok tt
         next-clean h = go (next at).end refl
           where
-            go : (e : Ending) → (next at).end ≡ e → e ≡ Done
-            go Done q = refl
-            go (Refused r) q = let z : ◌≡◌ {A = Bool} true false = sym (along-wrong h q) ∙ f in let k : ◌≡◌ {A = ℕ} 0 1 = cc in
+            go : (e : Ending) → (next at).end ≡ e → e ≡ Ok tt
+            go (Ok _) q = refl
+            go (Err r) q = let z : ◌≡◌ {A = Bool} true false = sym (along-wrong h q) ∙ f in let k : ◌≡◌ {A = ℕ} 0 1 = cc in
                 absurd (omega arith)
 
         pub marks-over : length xs ≤ at → drop m (note_of law xs).marks ≡ []
@@ -222,10 +222,10 @@ module _ (law : ℕ) (xs : List ℕ) where
     pub taking-more : {r : WalkAnswer} → Counts (next at) r → r.samples ≤ 20480
     taking-more c = omega (arith, c.samples, (walk-told xs law store_set 64 at 20480).fits)
 
-    pub taking-on : {r : WalkAnswer} → Counts (next at) r → r.end ≡ Done → at < length xs → at < r.place
+    pub taking-on : {r : WalkAnswer} → Counts (next at) r → r.end ≡ Ok tt → at < length xs → at < r.place
     taking-on c e h = omega (arith, c.place, next-on t.along h (sym c.end ∙ e))
 
-    pub taking-turn : (h : at < length xs) {r : WalkAnswer} {cells' : List ℕ} → Counts (next at) r → r.end ≡ Done
+    pub taking-turn : (h : at < length xs) {r : WalkAnswer} {cells' : List ℕ} → Counts (next at) r → r.end ≡ Ok tt
         → Keeps m at samples cells cells'
         → length cells' ≡ length cells → Taking cells₀ cells' (m + 1) r.place (samples + r.samples)
     taking-turn h {r} {cells'} c e kept same =
@@ -247,11 +247,11 @@ module _ (law : ℕ) (xs : List ℕ) where
 
     -- the call's answers
     module _ (l : law ≤ most_law) (g : length xs ≤ longest) where
-      pub taken-wrong : (h : at < length xs) {r : WalkAnswer} {why : Refusal} → Counts (next at) r → r.end ≡ Refused why
-          → (cells' : List ℕ) → Takes law xs cells₀ cells' Wrong
+      pub taken-wrong : (h : at < length xs) {r : WalkAnswer} {why : Refusal} → Counts (next at) r → r.end ≡ Err why
+          → (cells' : List ℕ) → Takes law xs cells₀ cells' None
       taken-wrong h c e cells' = takes-wrong law xs cells₀ cells' (along-wrong t.along l g h (sym c.end ∙ e))
 
-      pub taken-all : length xs ≤ at → 1 ≤ length xs → Takes law xs cells₀ cells (Counted samples m)
+      pub taken-all : length xs ≤ at → 1 ≤ length xs → Takes law xs cells₀ cells (Some (record { samples = samples; marks = m }))
       unfolding tally_of
       taken-all h some =
           let all = along-all t.along l g h in
@@ -263,20 +263,22 @@ module _ (law : ℕ) (xs : List ℕ) where
           }
 
 -- an answer that counts
-pub taken-told : (law : ℕ) (xs : List ℕ) {cells cells' : List ℕ} {samples m : ℕ} → Takes law xs cells cells' (Counted samples m)
-    → (is_bad law xs ≡ false) × (samples ≡ (note_of law xs).samples) × (m ≡ length (note_of law xs).marks)
+pub taken-told : (law : ℕ) (xs : List ℕ) {cells cells' : List ℕ} {r : Tally} → Takes law xs cells cells' (Some r)
+    → (is_bad law xs ≡ false) × (r.samples ≡ (note_of law xs).samples) × (r.marks ≡ length (note_of law xs).marks)
 unfolding tally_of
-taken-told law xs {samples = samples} {m} t = by (is_bad law xs) t.answer
+taken-told law xs {r = r} t = by (is_bad law xs) t.answer
   where
-    by : (b : Bool) → Counted samples m ≡ cond b Wrong (counted_of (note_of law xs))
-        → (b ≡ false) × (samples ≡ (note_of law xs).samples) × (m ≡ length (note_of law xs).marks)
-    by true e = let z : ◌≡◌ {A = ℕ} 0 1 = cc in absurd (omega arith)
-    by false e = (refl, cc, cc)
+    by : (b : Bool) → Some r ≡ cond b None (Some (counted_of (note_of law xs)))
+        → (b ≡ false) × (r.samples ≡ (note_of law xs).samples) × (r.marks ≡ length (note_of law xs).marks)
+    by true e = cc
+    by false e =
+        let q : r ≡ counted_of (note_of law xs) = cc in
+        (refl, ap (λ (x : Tally). x.samples) q, ap (λ (x : Tally). x.marks) q)
 
-pub taken-bad : (law : ℕ) (xs : List ℕ) {cells cells' : List ℕ} → Takes law xs cells cells' Wrong → is_bad law xs ≡ true
+pub taken-bad : (law : ℕ) (xs : List ℕ) {cells cells' : List ℕ} → Takes law xs cells cells' None → is_bad law xs ≡ true
 unfolding tally_of
 taken-bad law xs t = by (is_bad law xs) t.answer
   where
-    by : (b : Bool) → Wrong ≡ cond b Wrong (counted_of (note_of law xs)) → b ≡ true
+    by : (b : Bool) → ◌≡◌ {A = Option Tally} None (cond b None (Some (counted_of (note_of law xs)))) → b ≡ true
     by true e = refl
-    by false e = let z : ◌≡◌ {A = ℕ} 0 1 = cc in absurd (omega arith)
+    by false e = cc

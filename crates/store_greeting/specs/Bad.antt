@@ -1,14 +1,14 @@
 -- Document 02, R-6: "1 or more octets that the walk accepts with set 127"; "BAD if the walk, room never short, refuses or the greeting is
 -- empty".
 use Rattle.std.specs.Prelude.{ℕ, ◌*◌, List, Bool, true, false, cond, not, length, ltb}
-use Rattle.rules.specs.declared.Ending.{Ending}
-use Rattle.rules.specs.declared.Ending.TheVariants.{Done, Refused}
+use Rattle.rules.specs.Refusals.{Ending}
+use Rattle.std.specs.Prelude.{Ok, Err}
 use Rattle.rules.specs.Tools.{all_tools}
 use Rattle.rules.specs.Walk.{Walked, walk_all}
 
 abbrev pub is_done : Ending → Bool
-is_done Done = true
-is_done (Refused w) = false
+is_done (Ok _) = true
+is_done (Err w) = false
 
 -- the tools of the store's walk
 abbrev pub store_set : ℕ

@@ -1,20 +1,19 @@
 -- A greeting's samples and marks, taken as its walk goes, 64 frames at a time; or BAD.
-use Rattle.std.specs.Prelude.{ℕ, ◌+◌, ◌*◌, ◌≤◌, ◌≡◌, List, ◌++◌, false, cond, length, drop, set}
+use Rattle.std.specs.Prelude.{ℕ, ◌+◌, ◌*◌, ◌≤◌, ◌≡◌, List, ◌++◌, false, cond, length, drop, set, Option, Some, None}
 use Rattle.store_greeting.specs.Bad.{is_bad}
 use Rattle.store_greeting.specs.declared.marks.Tally.{Tally}
-use Rattle.store_greeting.specs.declared.marks.Tally.TheVariants.{Wrong, Counted}
 use Rattle.store_greeting.specs.Marks.{Note, note_of, mark_cells}
 
 abbrev pub counted_of : Note → Tally
-counted_of n = Counted n.samples (length n.marks)
+counted_of n = record { samples = n.samples; marks = length n.marks }
 
 -- BAD; or the samples, and the number of marks
-unfoldable pub tally_of : ℕ → List ℕ → Tally
-tally_of law xs = cond (is_bad law xs) Wrong (counted_of (note_of law xs))
+unfoldable pub tally_of : ℕ → List ℕ → Option Tally
+tally_of law xs = cond (is_bad law xs) None (Some (counted_of (note_of law xs)))
 
 -- the marks stand at the start of the lent cells, the rest as lent. Where they have no room there, or it is BAD, the cells are left in any
 -- state: a greeting's marks are counted, however many there are
-pub record Takes (law : ℕ) (xs cells cells' : List ℕ) (r : Tally) : Type 0 where
+pub record Takes (law : ℕ) (xs cells cells' : List ℕ) (r : Option Tally) : Type 0 where
   pub answer : r ≡ tally_of law xs
   pub lent :
       is_bad law xs ≡ false → 2 * length (note_of law xs).marks ≤ length cells

@@ -5,8 +5,6 @@ ghost use Rattle.rules.specs.Tools.{most_law};
 ghost use Rattle.rules.specs.Walk.{longest};
 ghost use Rattle.store_greeting.specs.Taking.{Takes, Keeps};
 
-use rules::Ending;
-
 // "frames 0, 64, 128 and so on", and room for so many frames.
 pub const FRAMES_APART: usize = 64;
 
@@ -15,11 +13,11 @@ pub const ROOM: usize = 20480;
 // Cells for the marks of 257 times 64 frames: those of a greeting of up to 16,384 octets, and of any that has no more frames.
 pub const KEPT_APART: usize = 514;
 
-// A greeting that is BAD; or its samples, and the number of its marks.
-#[derive(Drop)]
-pub enum Tally {
-    Wrong,
-    Counted(usize, usize),
+// A greeting's samples, and the number of its marks.
+#[derive(Clone, Copy)]
+pub struct Tally {
+    pub samples: usize,
+    pub marks: usize,
 }
 
 // A mark kept, where the lent cells have room for it.
@@ -27,20 +25,21 @@ fn keep(marks: &mut [u32], m: usize, at: usize, samples: usize)
     requires { (m < 2 ^ 32) × (at < 2 ^ 32) × (samples < 2 ^ 32) }
     ensures { Keeps m at samples marks.old marks.new }
 {
-    if marks.len() < 2 * m + 2 {
-        return;
+    if 2 * m + 2 <= marks.len() {
+        marks[2 * m] = at as u32;
+        marks[2 * m + 1] = samples as u32;
     }
-    marks[2 * m] = at as u32;
-    marks[2 * m + 1] = samples as u32;
 }
 
-// A greeting's walk, 64 frames at a time: before each, its mark is taken. Marks that the cells have no room for are counted.
-pub fn take(octets: &[u8], law: u32, marks: &mut [u32]) -> Tally
+// A greeting's walk, 64 frames at a time: before each, its mark is taken. Marks that the cells have no room for are counted. None for a
+// greeting that is BAD.
+// No `for`: the next place is known by what the walk took.
+pub fn take(octets: &[u8], law: u32, marks: &mut [u32]) -> Option<Tally>
     requires { (law ≤ most_law) × (length octets.now ≤ longest) }
     ensures { Takes law octets.now marks.old marks.new result }
 {
     if octets.len() < 1 {
-        return Tally::Wrong;
+        return None;
     }
     let mut at = 0;
     let mut samples = 0;
@@ -48,17 +47,16 @@ pub fn take(octets: &[u8], law: u32, marks: &mut [u32]) -> Tally
     while at < octets.len() {
         keep(marks, m, at, samples);
         let walked = walk::walk_on(octets, law, rules::ALL_TOOLS, at, FRAMES_APART, ROOM);
-        let end = walked.end;
-        match end {
-            Ending::Refused(_) => {
-                return Tally::Wrong;
+        match walked.end {
+            Err(_) => {
+                return None;
             }
-            Ending::Done => {
+            Ok(()) => {
                 at = walked.place;
                 samples += walked.samples;
                 m += 1;
             }
         }
     }
-    Tally::Counted(samples, m)
+    Some(Tally { samples, marks: m })
 }

@@ -7,7 +7,7 @@ use native.Mathlib.Omega.{arith}
 use lib.ListN.{length, drop}
 use borrow.Author.Tests.{lt-ltb, le-ltb}
 use Rattle.rules.specs.declared.Refusal.{Refusal}
-use Rattle.rules.specs.declared.Ending.TheVariants.{Done, Refused}
+use Rattle.std.proofs.Common.{Ok, Err, Some, None}
 use Rattle.rules.specs.Frame.{read_one}
 use Rattle.rules.specs.Walk.{Delivered, Walked, walk_from}
 use Rattle.rules.proofs.Walk.{walk-last, walk-ended, walk-off, walk-one}
@@ -15,17 +15,15 @@ use Rattle.store_greeting.specs.Bad.{store_set}
 use Rattle.reader.specs.declared.Report.{Report}
 use Rattle.reader.specs.Answers.{Tells}
 use Rattle.walk.proofs.Told.{Bounds, accepted, refused, read-bounds}
-use Rattle.store_jump.specs.declared.seeking.Sought.{Sought}
-use Rattle.store_jump.specs.declared.seeking.Sought.TheVariants.{At, Nowhere}
-use Rattle.store_jump.specs.Seeking.{seek, from_mark}
+use Rattle.store_jump.specs.Seeking.{Sought, seek, from_mark}
 
 -- the steps of the definition: no frame, the frame that holds the sample, a frame before it
-pub seek-none : (sample i before : ℕ) → seek sample i before [] ≡ Nowhere
+pub seek-none : (sample i before : ℕ) → seek sample i before [] ≡ None
 unfolding seek
 seek-none sample i before = refl
 
 module _ (sample i before : ℕ) (f : Delivered) (fs : List Delivered) where
-  pub seek-here : sample < before + length f.found.samples → seek sample i before (f ∷ fs) ≡ At i f.place (sample - before)
+  pub seek-here : sample < before + length f.found.samples → seek sample i before (f ∷ fs) ≡ Some (i, f.place, (sample - before))
   unfolding seek
   seek-here h = rw (lt-ltb sample (before + length f.found.samples) h)
 
@@ -59,22 +57,22 @@ module _ (octets : List ℕ) (law from first before sample : ℕ) where
 
   module _ {buffer : List ℕ} {at left passed n : ℕ} (w : Along buffer at left passed n) where
     -- no frame is left
-    stop : {x : Walked} → walk_from (64 - n) octets law store_set at left ≡ x → x.frames ≡ [] → Nowhere ≡ sought
+    stop : {x : Walked} → walk_from (64 - n) octets law store_set at left ≡ x → x.frames ≡ [] → None ≡ sought
     stop q e = sym (w.same ∙ ap (λ (x : List Delivered). seek sample (first + n) passed x) (ap (λ (x : Walked). x.frames) q ∙ e)
         ∙ seek-none sample (first + n) passed)
 
-    pub seek-ended : length octets ≤ at → Nowhere ≡ sought
+    pub seek-ended : length octets ≤ at → None ≡ sought
     seek-ended h = stop (walk-ended octets law store_set (64 - n) at left h) refl
 
-    pub seek-last : 64 ≤ n → Nowhere ≡ sought
+    pub seek-last : 64 ≤ n → None ≡ sought
     seek-last h = stop (walk-last octets law store_set (64 - n) at left (omega arith)) refl
 
     module _ (g : n < 64) (h : at < length octets) {r : Report} (t : Tells (read_one (drop at octets) law store_set left) r) where
-      pub seek-refused : (why : Refusal) → r.end ≡ Refused why → Nowhere ≡ sought
+      pub seek-refused : (why : Refusal) → r.end ≡ Err why → None ≡ sought
       seek-refused why e =
           stop (walk-off octets law store_set (64 - n) (64 - (n + 1)) at left (omega arith) h r.bit why (refused t e)) refl
 
-      module _ (e : r.end ≡ Done) where
+      module _ (e : r.end ≡ Ok tt) where
         pub seek-bounds : Bounds (drop at octets) left r
         seek-bounds = read-bounds (drop at octets) law store_set left t e
 
@@ -92,7 +90,7 @@ module _ (octets : List ℕ) (law from first before sample : ℕ) where
             a.frame a.is
             (omega (arith, a.tells.octets)) (omega (arith, a.tells.len)))
 
-        pub seek_found : sample < passed + r.len → At (first + n) at (sample - passed) ≡ sought
+        pub seek_found : sample < passed + r.len → Some ((first + n), at, (sample - passed)) ≡ sought
         seek_found l = sym (one ∙ seek-here sample (first + n) passed frame rest (omega (arith, (accepted t e).tells.len)))
 
         pub seek-turn : {buffer' : List ℕ} → passed + r.len ≤ sample → length buffer' ≡ 320

@@ -10,12 +10,10 @@ use native.Mathlib.Omega.{arith}
 use lib.ListN.{length, length-append}
 use lib.Dec.{ltb}
 use borrow.Author.Tests.{ltb-true, ltb-false}
+use Rattle.std.proofs.Common.{Some, None, Ok}
 use Rattle.rules.specs.Walk.{Delivered, samples_kept}
-use Rattle.store_jump.specs.declared.seeking.Sought.{Sought}
-use Rattle.store_jump.specs.declared.seeking.Sought.TheVariants.{At, Nowhere}
-use Rattle.store_jump.specs.declared.jumping.Answer.TheVariants.{Done}
-use Rattle.store_jump.specs.Seeking.{seek, Holds}
-use Rattle.store_jump.specs.Jump.{named, counted}
+use Rattle.store_jump.specs.Seeking.{Sought, seek, Holds}
+use Rattle.store_jump.specs.Jump.{told_by, named, counted}
 use Rattle.store_jump.proofs.Along.{seek-here, seek-past}
 
 pub seek-skip : (sample i before : ℕ) (a b : List Delivered) → before + length (samples_kept a) ≤ sample
@@ -60,7 +58,7 @@ record Seen (sample i before : ℕ) (fs : List Delivered) : Type 0 where
   are : fs ≡ passed ++ (frame ∷ rest)
   low : before + length (samples_kept passed) ≤ sample
   high : sample < before + length (samples_kept passed) + length frame.found.samples
-  is : seek sample i before fs ≡ At (i + length passed) frame.place (sample - (before + length (samples_kept passed)))
+  is : seek sample i before fs ≡ Some ((i + length passed), frame.place, (sample - (before + length (samples_kept passed))))
 
 seen_here : (sample i before : ℕ) (f : Delivered) (fs : List Delivered) → before ≤ sample → sample < before + length f.found.samples
     → Seen sample i before (f ∷ fs)
@@ -116,7 +114,7 @@ pub record Found (sample : ℕ) (fs : List Delivered) : Type 0 where
   pub frame : ℕ
   pub place : ℕ
   pub inside : ℕ
-  pub is : seek sample 0 0 fs ≡ At frame place inside
+  pub is : seek sample 0 0 fs ≡ Some (frame, place, inside)
   pub holds : Holds fs sample frame place inside
 
 pub seek_finds : (sample : ℕ) (fs : List Delivered) → sample < length (samples_kept fs) → Found sample fs
@@ -142,24 +140,24 @@ seek_finds sample fs h =
 
 -- no other frame holds it
 pub holds-only : (sample : ℕ) (fs : List Delivered) {frame place inside : ℕ} → Holds fs sample frame place inside
-    → seek sample 0 0 fs ≡ At frame place inside
+    → seek sample 0 0 fs ≡ Some (frame, place, inside)
 holds-only sample fs {frame} {place} {inside} h =
     let k = length (samples_kept h.before) in
     let e : sample - (0 + k) ≡ inside = omega (arith, h.sum) in
     let f : 0 + length h.before ≡ frame = omega (arith, h.count) in
     ap (seek sample 0 0) h.are ∙ seek-skip sample 0 0 h.before (h.named ∷ h.behind) (omega (arith, h.sum))
     ∙ seek-here sample (0 + length h.before) (0 + k) h.named h.behind (omega (arith, h.sum, h.within))
-    ∙ ap (λ (x : ℕ). At x h.named.place (sample - (0 + k))) f ∙ ap (λ (x : ℕ). At frame h.named.place x) e
-    ∙ ap (λ (x : ℕ). At frame x inside) (sym h.octets)
+    ∙ ap (λ (x : ℕ). Some (x, h.named.place, (sample - (0 + k)))) f ∙ ap (λ (x : ℕ). Some (frame, h.named.place, x)) e
+    ∙ ap (λ (x : ℕ). Some (frame, x, inside)) (sym h.octets)
 
 -- the frame is one of those given
 abbrev Near : ℕ → ℕ → Sought → Type 0
-Near i n (At frame place inside) = (i ≤ frame) × (frame < i + n)
-Near i n Nowhere = Unit {0}
+Near i n (Some (frame, place, inside)) = (i ≤ frame) × (frame < i + n)
+Near i n None = Unit {0}
 
 near_on : (i n : ℕ) (s : Sought) → Near (i + 1) n s → Near i (suc n) s
-near_on i n (At frame place inside) h = (omega (arith, h.0), omega (arith, h.1))
-near_on i n Nowhere h = tt
+near_on i n (Some (frame, place, inside)) h = (omega (arith, h.0), omega (arith, h.1))
+near_on i n None h = tt
 
 near : (sample i before : ℕ) (fs : List Delivered) → Near i (length fs) (seek sample i before fs)
 unfolding seek
@@ -170,18 +168,18 @@ near sample i before (f ∷ fs) = by (ltb sample here) (near sample (i + 1) here
     here = before + length f.found.samples
 
     by : (t : Bool) → Near (i + 1) (length fs) (seek sample (i + 1) here fs)
-        → Near i (suc (length fs)) (cond t (At i f.place (sample - before)) (seek sample (i + 1) here fs))
+        → Near i (suc (length fs)) (cond t (Some (i, f.place, (sample - before))) (seek sample (i + 1) here fs))
     by true later = (omega arith, omega arith)
     by false later = near_on i (length fs) (seek sample (i + 1) here fs) later
 
-pub seek-near : (sample i before : ℕ) (fs : List Delivered) {frame place inside : ℕ} → seek sample i before fs ≡ At frame place inside
+pub seek-near : (sample i before : ℕ) (fs : List Delivered) {frame place inside : ℕ} → seek sample i before fs ≡ Some (frame, place, inside)
     → (i ≤ frame) × (frame < i + length fs)
 seek-near sample i before fs e = subst (Near i (length fs)) e (near sample i before fs)
 
 -- from frame 64 * k on, fewer than 64 frames further, the remainder by 64 counts the frames from there
 counted-near : (k n : ℕ) → n ≤ 64 → (s : Sought) → Near (64 * k) n s → counted s ≡ named k s
-counted-near k n h (At frame place inside) l = ap (Done frame place inside) (omega (arith, l.0, l.1))
-counted-near k n h Nowhere l = refl
+counted-near k n h (Some (frame, place, inside)) l = ap (λ (x : ℕ). Ok (told_by frame place inside x)) (omega (arith, l.0, l.1))
+counted-near k n h None l = refl
 
 pub counted-named : (sample k before : ℕ) (fs : List Delivered) → length fs ≤ 64
     → counted (seek sample (64 * k) before fs) ≡ named k (seek sample (64 * k) before fs)

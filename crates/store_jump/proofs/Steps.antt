@@ -7,14 +7,14 @@ use mathlib.Core.Bool.{Bool, true, false}
 use native.Mathlib.Omega.{arith}
 use lib.ListN.{length, get_or, take, drop}
 use borrow.Author.Tests.{lt-ltb, le-ltb, le-leb, lt-leb, eq-eqb, ne_eqb}
+use Rattle.std.proofs.Common.{Err}
 use Rattle.store_rows.specs.declared.rows.Row.{Row}
-use Rattle.store_rows.specs.Limits.{size_of, largest_block, most_number}
+use Rattle.store_rows.specs.Limits.{size_of, largest_block, is_number}
 use Rattle.store_rows.specs.Rows.{greeting}
-use Rattle.store_rows.specs.Finding.{find_from}
+use Rattle.store_rows.specs.Finding.{absent, find_from}
 use Rattle.store_rows.specs.Cells.{row_at, rows_at, rows_of}
 use Rattle.store_rows.specs.Changed.{nth}
-use Rattle.store_rows.proofs.Cells.{length-rows, nth-rows}
-use Rattle.store_rows.proofs.Finding.{found_here, found_nowhere}
+use Rattle.store_rows.proofs.Cells.{nth-rows}
 use Rattle.store_rows.proofs.Judged.{row_next}
 use Rattle.rules.proofs.Lent.{from_on as part-on}
 use Rattle.rules.proofs.Walk.{walk-told}
@@ -27,18 +27,15 @@ use Rattle.store_notes.specs.Sane.{sane_store, Noted}
 use Rattle.store_notes.proofs.Noting.{length-marks}
 use Rattle.store_notes.proofs.Matched.{room_for}
 use Rattle.store_notes.proofs.Stored.{note-at, marks-next, held_all}
-use Rattle.store_jump.specs.declared.seeking.Sought.{Sought}
-use Rattle.store_jump.specs.Seeking.{seek, from_mark, last_mark}
+use Rattle.store_jump.specs.Seeking.{Sought, seek, from_mark, last_mark}
 use Rattle.store_jump.proofs.Halving.{mark-at}
 use Rattle.store_jump.proofs.Sought.{counted-named}
 use Rattle.store_jump.specs.declared.jumping.Refusal.TheVariants.{Number, Absent, Bad, Beyond, Table}
-use Rattle.store_jump.specs.declared.jumping.Answer.{Answer}
-use Rattle.store_jump.specs.declared.jumping.Answer.TheVariants.{Refused}
-use Rattle.store_jump.specs.Jump.{counted, jump_from, jump_in, jump_among}
+use Rattle.store_jump.specs.Jump.{Answer, counted, jump_from, jump_in, jump_among}
 use Rattle.store_jump.specs.Calls.{Jump}
 
 module _ (law : ℕ) (xs : List ℕ) (k at before sample : ℕ) where
-  pub from-behind : sample < before → Refused Bad ≡ jump_from law xs k (mark_of at before) sample
+  pub from-behind : sample < before → Err Bad ≡ jump_from law xs k (mark_of at before) sample
   unfolding jump_from
   from-behind h = rw (lt-ltb sample before h)
 
@@ -53,12 +50,12 @@ module _ (head : Head) (xs cells : List ℕ) (sample : ℕ) where
   abbrev m : ℕ
   m = head.marks
 
-  pub in-beyond : head.samples ≤ sample → Refused Beyond ≡ jump_in xs (note_by head cells) sample
+  pub in-beyond : head.samples ≤ sample → Err Beyond ≡ jump_in xs (note_by head cells) sample
   unfolding jump_in
   in-beyond h = rw (le-leb head.samples sample h)
 
   module _ (h : sample < head.samples) where
-    pub in-none : m < 1 → Refused Bad ≡ jump_in xs (note_by head cells) sample
+    pub in-none : m < 1 → Err Bad ≡ jump_in xs (note_by head cells) sample
     unfolding jump_in
     in-none g = rw (lt-leb head.samples sample h, eq-eqb (length (marks_in m cells)) 0 (omega (arith, length-marks m cells)))
 
@@ -113,37 +110,27 @@ module _ {size : ℕ} {t : List ℕ} (k : Noted size t) (z : size ≤ largest_bl
 
 -- the number, among the greetings of a table
 module _ (b t : List ℕ) (x sample : ℕ) where
-  pub among-low : x < 1 → Refused Number ≡ jump_among b (rows_of t) (notes_of t) x sample
+  pub among-none : is_number x ≡ false → Err Number ≡ jump_among b (rows_of t) (notes_of t) x sample
   unfolding jump_among
-  among-low h = rw (lt-leb 1 x h)
+  among-none h = rw h
 
-  module _ (low : 1 ≤ x) where
-    pub among-high : most_number < x → Refused Number ≡ jump_among b (rows_of t) (notes_of t) x sample
+  module _ (high : is_number x ≡ true) where
+    pub among-absent : absent x (rows_of t) ≡ true → Err Absent ≡ jump_among b (rows_of t) (notes_of t) x sample
     unfolding jump_among
-    among-high h = rw (le-leb 1 x low, lt-leb x most_number h)
+    among-absent h = rw (high, h)
 
-    module _ (high : x ≤ most_number) {n i : ℕ} (c : n ≡ get_or t 0 0) (f : i ≡ find_from x 0 (rows_at t (n - 0) (1 + 3 * 0))) where
-      many : 0 + length (rows_of t) ≡ n
-      many = omega (arith, length-rows t (get_or t 0 0) 1, c)
-
-      place : i ≡ find_from x 0 (rows_of t)
-      place = let z : n - 0 ≡ get_or t 0 0 = omega arith in f ∙ ap (λ (y : ℕ). find_from x 0 (rows_at t y 1)) z
-
-      pub among-absent : n ≤ i → Refused Absent ≡ jump_among b (rows_of t) (notes_of t) x sample
-      unfolding jump_among
-      among-absent h = rw (le-leb 1 x low, le-leb x most_number high, found_nowhere x 0 n (rows_of t) place many h)
-
-      pub among-found : {a : Answer} → i < n → a ≡ jump_in (greeting b (nth i (rows_of t))) (nth_note i (notes_of t)) sample
-          → a ≡ jump_among b (rows_of t) (notes_of t) x sample
-      unfolding jump_among
-      among-found h e = rw (le-leb 1 x low, le-leb x most_number high, found_here x 0 n (rows_of t) place many h, ← place) e
+    pub among-found : {i : ℕ} {a : Answer} → absent x (rows_of t) ≡ false → i ≡ find_from x 0 (rows_of t)
+        → a ≡ jump_in (greeting b (nth i (rows_of t))) (nth_note i (notes_of t)) sample
+        → a ≡ jump_among b (rows_of t) (notes_of t) x sample
+    unfolding jump_among
+    among-found h place e = rw (high, h, ← place) e
 
 -- TABLE, or what follows
 module _ (b t : List ℕ) (x sample : ℕ) {size : ℕ} (z : size ≡ size_of b) {sane : Bool} (e : sane ≡ sane_store size t) where
   judged : sane_store (size_of b) t ≡ sane
   judged = sym (e ∙ ap (λ (y : ℕ). sane_store y t) z)
 
-  pub jump-table : sane ≡ false → Jump x sample b t (Refused Table)
+  pub jump-table : sane ≡ false → Jump x sample b t (Err Table)
   jump-table f = rw (judged, f)
 
   pub jump-on : {r : Answer} → sane ≡ true → r ≡ jump_among b (rows_of t) (notes_of t) x sample → Jump x sample b t r

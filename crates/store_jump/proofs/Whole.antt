@@ -12,8 +12,8 @@ use lib.Seq.{get_or-append-add}
 use lib.Dec.{ltb}
 use borrow.Author.Tests.{le-ltb, ltb-false, lt-leb, ne_eqb}
 use Rattle.rules.specs.declared.Refusal.{Refusal}
-use Rattle.rules.specs.declared.Ending.{Ending}
-use Rattle.rules.specs.declared.Ending.TheVariants.{Done as Clean, Refused as Off}
+use Rattle.std.proofs.Common.{Ok, Err, Some}
+use Rattle.rules.specs.Refusals.{Ending}
 use Rattle.rules.specs.Tools.{most_law}
 use Rattle.rules.specs.Walk.{Delivered, Walked, walk_from, longest, samples_kept}
 use Rattle.rules.proofs.Walk.{samples_kept-append, walk-told, walk-on, walk_kept, walk-fuel, walk-ended}
@@ -23,20 +23,18 @@ use Rattle.store_greeting.specs.Marks.{Mark, mark_of, marks_from, marks_of, note
 use Rattle.store_greeting.proofs.Marked.{marks-append}
 use Rattle.store_greeting.proofs.Count.{marks-count}
 use Rattle.store_greeting.proofs.Taking.{parts, next, Along, along-next, marks-next}
-use Rattle.store_jump.specs.declared.seeking.Sought.TheVariants.{At}
-use Rattle.store_jump.specs.declared.jumping.Answer.TheVariants.{Done}
 use Rattle.store_jump.specs.Seeking.{seek, by_walk, nth_mark, last_mark}
 use Rattle.store_jump.proofs.LastMark.{LastAt, Rising, last-mark-is, last-mark-only}
 use Rattle.store_jump.proofs.Sought.{seek-skip, seek-within, seek_finds, seek-near}
-use Rattle.store_jump.specs.Jump.{named, jump_from, jump_in}
+use Rattle.store_jump.specs.Jump.{told_by, named, jump_from, jump_in}
 use Rattle.store_jump.specs.Whole.{Named}
 
 -- what a greeting that is not BAD is
-done-of : (e : Ending) → not (is_done e) ≡ false → e ≡ Clean
-done-of Clean h = refl
-done-of (Off w) h = let z : ◌≡◌ {A = Bool} true false = h in cc
+done-of : (e : Ending) → not (is_done e) ≡ false → e ≡ (Ok tt)
+done-of (Ok _) h = refl
+done-of (Err w) h = let z : ◌≡◌ {A = Bool} true false = h in cc
 
-not-off : {w : Refusal} {A : Type 0} → Clean ≡ Off w → A
+not-off : {w : Refusal} {A : Type 0} → ◌≡◌ {A = Ending} (Ok tt) (Err w) → A
 not-off e = let z : ◌≡◌ {A = ℕ} 0 1 = cc in absurd (omega arith)
 
 not-bad : {A : Type 0} → true ≡ false → A
@@ -49,12 +47,12 @@ module _ (law : ℕ) (xs : List ℕ) (good : is_bad law xs ≡ false) where
   abbrev marks : List Mark
   marks = marks_of frames
 
-  sound : (1 ≤ length xs) × ((walk_of law xs).end ≡ Clean)
+  sound : (1 ≤ length xs) × ((walk_of law xs).end ≡ (Ok tt))
   unfolding is_bad
   sound = go (ltb (length xs) 1) refl good
     where
       go : (t : Bool) → ltb (length xs) 1 ≡ t → cond t true (not (is_done (walk_of law xs).end)) ≡ false
-          → (1 ≤ length xs) × ((walk_of law xs).end ≡ Clean)
+          → (1 ≤ length xs) × ((walk_of law xs).end ≡ (Ok tt))
       go true e h = not-bad h
       go false e h = (ltb-false (length xs) 1 e, done-of (walk_of law xs).end h)
 
@@ -79,12 +77,12 @@ module _ (law : ℕ) (xs : List ℕ) (good : is_bad law xs ≡ false) where
       ∙ walk-fuel xs law store_set (length xs + 1) (n + (length xs + 1)) 0 (320 * length xs) (omega arith) (omega arith)
 
   -- the first 64 * k frames: they end clean, at the octets and samples before frame 64 * k
-  clean : (k : ℕ) → (parts law xs k).end ≡ Clean
+  clean : (k : ℕ) → (parts law xs k).end ≡ (Ok tt)
   clean k = go (parts law xs k).end refl
     where
-      go : (e : Ending) → (parts law xs k).end ≡ e → e ≡ Clean
-      go Clean e = refl
-      go (Off w) e =
+      go : (e : Ending) → (parts law xs k).end ≡ e → e ≡ (Ok tt)
+      go (Ok _) e = refl
+      go (Err w) e =
           let all = more (64 * k) ∙ walk_kept xs law store_set (64 * k) (length xs + 1) 0 (320 * length xs) e in
           not-off (sym sound.1 ∙ ap (λ (x : Walked). x.end) all ∙ e)
 
@@ -123,7 +121,7 @@ module _ (law : ℕ) (xs : List ℕ) (good : is_bad law xs ≡ false) where
     then : (parts law xs (k + 1)).frames ≡ (parts law xs k).frames ++ here
     then = ap (λ (x : Walked). x.frames) (along-next law xs along h)
 
-    clean-next : (next law xs (at k)).end ≡ Clean
+    clean-next : (next law xs (at k)).end ≡ (Ok tt)
     clean-next = sym (ap (λ (x : Walked). x.end) (along-next law xs along h)) ∙ clean (k + 1)
 
     before-next : before (k + 1) ≡ before k + length (samples_kept here)
@@ -244,7 +242,7 @@ module _ (law : ℕ) (xs : List ℕ) (good : is_bad law xs ≡ false) where
         ) (sym (ap (named k) same))
 
     -- the mark is that of frame 64 * (f / 64), and the last one at or before the sample
-    pub mark-of : {frame place inside : ℕ} → by_walk law xs sample ≡ At frame place inside → frame / 64 ≡ k
+    pub mark-of : {frame place inside : ℕ} → by_walk law xs sample ≡ Some (frame, place, inside) → frame / 64 ≡ k
     mark-of e =
         let n = seek-near sample (64 * k) (before k) (here k there) (sym same ∙ e) in
         omega (arith, n.0, n.1, (walk-told xs law store_set 64 (at k) 20480).few)
@@ -261,7 +259,7 @@ jump-named law xs good sample h =
       place = f.place;
       inside = f.inside;
       answer = jump-walks law xs good sample h ∙ ap (named (last_mark ms sample)) f.is
-          ∙ ap (λ (k : ℕ). Done f.frame f.place f.inside (f.frame - 64 * k + 1)) (sym (mark-of law xs good sample h f.is));
+          ∙ ap (λ (k : ℕ). Ok (told_by f.frame f.place f.inside (f.frame - 64 * k + 1))) (sym (mark-of law xs good sample h f.is));
       holds = f.holds;
       mark = last-mark-only ms sample (marks-rise law xs good) m;
     }

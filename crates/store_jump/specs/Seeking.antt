@@ -1,18 +1,20 @@
 -- Document 02, R-9: "name the frame that holds it, its octet place and the sample's place in the frame, from the last mark at or before
 -- it".
-use Rattle.std.specs.Prelude.{ℕ, zero, suc, ◌+◌, ◌-◌, ◌/◌, ◌≤◌, ◌<◌, ◌≡◌, List, [], ◌∷◌, ◌++◌, cond, length, get_or, leb, ltb}
+use Rattle.std.specs.Prelude.{ℕ, zero, suc, ◌+◌, ◌-◌, ◌/◌, ◌≤◌, ◌<◌, ◌≡◌, List, [], ◌∷◌, ◌++◌, cond, length, get_or, leb, ltb, Option, Some, None}
 use Rattle.rules.specs.Walk.{Delivered, Walked, walk_from, samples_kept}
 use Rattle.store_greeting.specs.Bad.{walk_of, store_set, never_short}
 use Rattle.store_greeting.specs.Marks.{Mark, mark_of, frames_apart}
-use Rattle.store_jump.specs.declared.seeking.Sought.{Sought}
-use Rattle.store_jump.specs.declared.seeking.Sought.TheVariants.{At, Nowhere}
 
--- the frame that holds a sample, its octet place, and the sample's place in it, among frames of which the first is frame i, with so many
+-- the frame that holds a sample, its octet place, and the sample's place in it
+abbrev pub Sought : Type 0
+Sought = Option (ℕ × ℕ × ℕ)
+
+-- the same, among frames of which the first is frame i, with so many
 -- samples before it. A pad holds none.
 unfoldable pub seek : ℕ → ℕ → ℕ → List Delivered → Sought
-seek sample i before [] = Nowhere
+seek sample i before [] = None
 seek sample i before (f ∷ fs) =
-    cond (ltb sample (before + length f.found.samples)) (At i f.place (sample - before))
+    cond (ltb sample (before + length f.found.samples)) (Some (i, f.place, sample - before))
     (seek sample (i + 1) (before + length f.found.samples) fs)
 
 -- which frame that is: of all frames, so many stand before it, and with their samples the sample's place in it makes up the sample number

@@ -10,9 +10,10 @@ ghost use Rattle.store_notes.specs.Notes.{nth_note};
 ghost use Rattle.store_notes.specs.Cells.{note_by, notes_of};
 ghost use Rattle.store_notes.specs.Sane.{Noted};
 ghost use Rattle.store_jump.specs.Jump.{counted, jump_from, jump_in, jump_among};
-ghost use Rattle.store_jump.specs.Calls.{refusal_number, number_of, told_of, Jump};
+ghost use Rattle.store_jump.specs.Calls.{refusal_number, refusal-not-zero, told_of, Jump};
 
 use crate::seeking::Sought;
+use rules::Numbered;
 use store_notes::Head;
 
 // "Refusals, in order: NUMBER, ABSENT, BEYOND"; TABLE comes first, and BAD where the marks are false.
@@ -27,13 +28,6 @@ pub enum Refusal {
 
 // The frame, its octet place, the sample's place in it, and the frames read.
 #[derive(Clone, Copy)]
-pub enum Answer {
-    Done(usize, usize, usize, usize),
-    Refused(Refusal),
-}
-
-// What an accepted call tells; a refused one tells zeros.
-#[derive(Clone, Copy)]
 pub struct Told {
     pub frame: usize,
     pub place: usize,
@@ -41,45 +35,34 @@ pub struct Told {
     pub read: usize,
 }
 
-pub fn refusal_number(why: Refusal) -> u32
-    ensures { result ≡ refusal_number why }
-{
-    match why {
-        Refusal::Number => 15,
-        Refusal::Absent => 17,
-        Refusal::Bad => 18,
-        Refusal::Beyond => 21,
-        Refusal::Table => 26,
+pub type Answer = Result<Told, Refusal>;
+
+impl Numbered for Refusal {
+    ghost number = { refusal_number };
+
+    ghost never_zero = { refusal-not-zero };
+
+    fn number(self) -> u32 {
+        match self {
+            Refusal::Number => 15,
+            Refusal::Absent => 17,
+            Refusal::Bad => 18,
+            Refusal::Beyond => 21,
+            Refusal::Table => 26,
+        }
     }
 }
 
-// An accepted call has the number 0.
-pub fn number_of(a: Answer) -> u32
-    ensures { result ≡ number_of a }
-{
-    match a {
-        Answer::Done(_, _, _, _) => 0,
-        Answer::Refused(why) => refusal_number(why),
-    }
-}
-
+// What an accepted call tells; a refused one tells zeros.
 pub fn told_of(a: Answer) -> Told
     ensures { result ≡ told_of a }
 {
-    match a {
-        Answer::Done(frame, place, inside, read) => Told {
-            frame,
-            place,
-            inside,
-            read,
-        },
-        Answer::Refused(_) => Told {
-            frame: 0,
-            place: 0,
-            inside: 0,
-            read: 0,
-        },
-    }
+    a.unwrap_or(Told {
+        frame: 0,
+        place: 0,
+        inside: 0,
+        read: 0,
+    })
 }
 
 // "The answer counts the frames read, from that mark up to and including the one named": a mark's frame is a multiple of 64.
@@ -87,15 +70,13 @@ fn count_read(s: Sought) -> Answer
     ensures { result ≡ counted s }
 {
     match s {
-        Sought::At(frame, place, inside) => {
-            Answer::Done(
-                frame,
-                place,
-                inside,
-                frame % store_greeting::marks::FRAMES_APART + 1,
-            )
-        }
-        Sought::Nowhere => Answer::Refused(Refusal::Bad),
+        Some((frame, place, inside)) => Ok(Told {
+            frame,
+            place,
+            inside,
+            read: frame % store_greeting::marks::FRAMES_APART + 1,
+        }),
+        None => Err(Refusal::Bad),
     }
 }
 
@@ -105,7 +86,7 @@ fn from_mark(octets: &[u8], law: u32, k: usize, at: usize, before: usize, sample
     ensures { result ≡ jump_from law octets.now k (mark_of at before) sample }
 {
     if sample < before {
-        return Answer::Refused(Refusal::Bad);
+        return Err(Refusal::Bad);
     }
     let first = store_greeting::marks::FRAMES_APART * k;
     count_read(crate::seeking::seek_on(octets, law, at, first, before, sample))
@@ -117,14 +98,14 @@ fn within(octets: &[u8], head: Head, marks: &[u32], sample: usize) -> Answer
     ensures { result ≡ jump_in octets.now (note_by head marks.now) sample }
 {
     if head.samples <= sample {
-        return Answer::Refused(Refusal::Beyond);
+        return Err(Refusal::Beyond);
     }
     if head.marks < 1 {
-        return Answer::Refused(Refusal::Bad);
+        return Err(Refusal::Bad);
     }
     let k = crate::seeking::last_mark(marks, head.marks, sample);
-    let at = store_rows::rows::wide(marks[2 * k]);
-    let before = store_rows::rows::wide(marks[2 * k + 1]);
+    let at = marks[2 * k] as usize;
+    let before = marks[2 * k + 1] as usize;
     from_mark(octets, head.law, k, at, before, sample)
 }
 
@@ -147,18 +128,14 @@ fn among(block: &[u8], table: &[u32], size: usize, number: usize, sample: usize)
     requires { Noted size table.now × (size ≤ length block.now) × (size ≤ largest_block) }
     ensures { result ≡ jump_among block.now (rows_of table.now) (notes_of table.now) number sample }
 {
-    if number < 1 {
-        return Answer::Refused(Refusal::Number);
+    if !store_rows::rows::is_number(number) {
+        return Err(Refusal::Number);
     }
-    if store_rows::rows::MOST_NUMBER < number {
-        return Answer::Refused(Refusal::Number);
+    let n = table[0] as usize;
+    match store_rows::rows::find(table, n, number) {
+        None => Err(Refusal::Absent),
+        Some(i) => at_row(block, table, size, i, sample),
     }
-    let n = store_rows::rows::wide(table[0]);
-    let i = store_rows::rows::find(table, n, 0, number);
-    if n <= i {
-        return Answer::Refused(Refusal::Absent);
-    }
-    at_row(block, table, size, i, sample)
 }
 
 // "Jump to a second": TABLE, NUMBER, ABSENT, BEYOND, BAD; the frame, its octet place, the sample's place in it, and the frames read.
@@ -167,9 +144,7 @@ pub fn jump(block: &[u8], table: &[u32], number: u32, sample: u64) -> Answer
 {
     let size = store_rows::rows::size_of(block.len());
     if !store_notes::sane(table, size) {
-        return Answer::Refused(Refusal::Table);
+        return Err(Refusal::Table);
     }
-    let x = store_rows::rows::wide(number);
-    let second = sample as usize;
-    among(block, table, size, x, second)
+    among(block, table, size, number as usize, sample as usize)
 }

@@ -5,14 +5,8 @@ ghost use Rattle.store_notes.specs.Cells.{marks_in};
 ghost use Rattle.store_jump.specs.Seeking.{seek, from_mark, middle, last_mark};
 ghost use Rattle.store_jump.specs.Halves.{half_of};
 
-use rules::Ending;
-
 // The frame that holds a sample, its octet place, and the sample's place in it.
-#[derive(Drop)]
-pub enum Sought {
-    At(usize, usize, usize),
-    Nowhere,
-}
+pub type Sought = Option<(usize, usize, usize)>;
 
 // Room for the frames between two marks.
 const ROOM: usize = 20480;
@@ -30,7 +24,7 @@ fn half(marks: &[u32], low: usize, high: usize, sample: usize) -> Span
     ensures { result ≡ half_of (get_or marks.now (2 * middle low high + 1) 0) sample low high }
 {
     let mid = low + (high - low) / 2;
-    let before = store_rows::rows::wide(marks[2 * mid + 1]);
+    let before = marks[2 * mid + 1] as usize;
     if before <= sample {
         return Span { low: mid, high };
     }
@@ -38,6 +32,7 @@ fn half(marks: &[u32], low: usize, high: usize, sample: usize) -> Span
 }
 
 // "the last mark at or before it", of the marks that lie in these cells, by halving.
+// Not by `partition_point`: it asks a sorted slice, and the marks of a lent table need not rise; `last_from` of specs halves too.
 pub fn last_mark(marks: &[u32], m: usize, sample: usize) -> usize
     requires { (1 ≤ m) × (2 * m ≤ length marks.now) }
     ensures { (result ≡ last_mark (marks_in m marks.now) sample) × (result < m) }
@@ -53,6 +48,7 @@ pub fn last_mark(marks: &[u32], m: usize, sample: usize) -> usize
 }
 
 // The frame that holds a sample, of the 64 frames from a mark on: frame `first` stands at `at`, with so many samples before it.
+// A `while`, as the walk has it: the place and the room go on by what was passed.
 pub fn seek_on(
     octets: &[u8],
     law: u32,
@@ -71,14 +67,13 @@ pub fn seek_on(
     let mut n = 0;
     while n < store_greeting::marks::FRAMES_APART && place < octets.len() {
         let r = walk::pass(octets, law, rules::ALL_TOOLS, place, left, &mut samples);
-        let e = r.end;
-        match e {
-            Ending::Refused(_) => {
-                return Sought::Nowhere;
+        match r.end {
+            Err(_) => {
+                return None;
             }
-            Ending::Done => {
+            Ok(()) => {
                 if sample < passed + r.len {
-                    return Sought::At(first + n, place, sample - passed);
+                    return Some((first + n, place, sample - passed));
                 }
                 place += r.octets;
                 left -= r.len;
@@ -87,5 +82,5 @@ pub fn seek_on(
             }
         }
     }
-    Sought::Nowhere
+    None
 }

@@ -1,8 +1,8 @@
--- The calls' steps over a table: the next move as a loop finds it (`next-end`, `next_here`, `next-turn`), the octets moved (`moved-turn`),
+-- The calls' steps over a table: the next move as a loop finds it (`Looking`), the octets moved (`Summing`),
 -- one cell of a row told anew (`start-told`, `number-told`), the refusals in their order, and what a put would tell (`tried-put`).
 use Prim.Native.Nat.{ℕ, ◌+◌, ◌*◌, ◌-◌, ◌≤◌, ◌<◌}
 use mathlib.Core.Path.{◌≡◌, refl, sym, ap, ◌∙◌}
-use mathlib.Core.List.{List, ◌∷◌, ◌++◌, append_assoc}
+use mathlib.Core.List.{List, [], ◌∷◌, ◌++◌, append_assoc}
 use mathlib.Core.Bool.{Bool, true, false, cond, not}
 use native.Mathlib.Omega.{arith}
 use lib.ListN.{length, take, drop, get_or, set, length-append, take-append-drop}
@@ -11,84 +11,120 @@ use lib.Dec.{leb, ltb}
 use borrow.Author.Tests.{lt-ltb, le-ltb, le-leb, lt-leb, eq-eqb, ne_eqb}
 use Rattle.rules.specs.Tools.{is_law, most_law}
 use Rattle.store_rows.specs.declared.rows.Row.{Row}
-use Rattle.store_rows.specs.declared.rows.Gap.{Gap}
-use Rattle.store_rows.specs.declared.rows.Gap.TheVariants.{At, Nowhere}
+use Rattle.std.proofs.Common.{Option, Some, None, Ok, Err}
 use Rattle.store_rows.specs.Limits.{most_number, is_number, size_of}
 use Rattle.store_rows.specs.Rows.{held}
-use Rattle.store_rows.specs.Finding.{absent, find_from, lowest_gap}
+use Rattle.store_rows.specs.Finding.{absent, find_from, place_of, lowest_gap}
 use Rattle.store_rows.specs.Cells.{row_at, rows_at, rows_of, cells_of, laid}
 use Rattle.store_rows.specs.Changed.{nth, row_laid}
 use Rattle.store_rows.specs.Closing.{moved_to, moved_one, moved_from}
-use Rattle.store_rows.proofs.Cells.{length-rows, rows_snoc, take-rows, drop-rows, nth-rows, cells-append, cells-cons, cells-rows}
+use Rattle.store_rows.specs.Sane.{Ordered}
+use Rattle.store_rows.proofs.Cells.{length-rows, take-rows, drop-rows, nth-rows, cells-append, cells-cons, cells-rows}
 use Rattle.store_rows.proofs.Cells.{drop-three, set-second}
 use Rattle.store_rows.proofs.Changing.{front}
-use Rattle.store_rows.proofs.Left.{left, left-all, left-none, left_step}
-use Rattle.store_rows.proofs.Finding.{found_here, found_nowhere}
-use Rattle.store_rows.proofs.Closed.{moved-snoc}
+use Rattle.store_rows.proofs.Left.{left, left-all, left_step}
+use Rattle.std.specs.Option.{is_some}
+use Rattle.std.proofs.lemmas.Bool.{not-true, not-false}
+use Rattle.store_rows.proofs.Finding.{place-there, held-turn}
+use Rattle.store_rows.proofs.Closed.{moved-few}
+use Rattle.store_rows.proofs.Rising.{rising-within}
 use Rattle.store_greeting.specs.Bad.{is_bad}
 use Rattle.store_greeting.specs.Marks.{Note}
 use Rattle.store_notes.specs.Cells.{notes_of}
 use Rattle.store_notes.specs.Sane.{sane_store}
 use Rattle.store.specs.declared.Refusal.{Refusal}
 use Rattle.store.specs.declared.Refusal.TheVariants.{Law, Number, Absent, Taken, Bad, Full, NoRoom, Table}
-use Rattle.store.specs.declared.Answer.{Answer}
-use Rattle.store.specs.declared.Answer.TheVariants.{Done as Tells, Refused}
 use Rattle.store.specs.Store.{leaves, refused as declined, put_at, fitted, put_in}
-use Rattle.store.specs.Calls.{answer_of, put_of}
-use Rattle.store_moves.specs.declared.calls.Due.{Due}
-use Rattle.store_moves.specs.declared.calls.Due.TheVariants.{Goes, Closed}
+use Rattle.store.specs.Calls.{Answer, answer_of, put_of}
 use Rattle.store_moves.specs.declared.calls.Hop.{Hop}
-use Rattle.store_moves.specs.declared.calls.Told.TheVariants.{Asked, Refused as Untold}
-use Rattle.store_moves.specs.declared.calls.Change.{Change}
-use Rattle.store_moves.specs.declared.calls.Change.TheVariants.{Done, NotNext, Refused as Denied}
-use Rattle.store_moves.specs.Next.{next_from, next_of, hop_of, replace_at, moved_at, renumbered_to, renumbered_at, Changed, changes}
+use Rattle.store_moves.specs.declared.calls.Unmoved.TheVariants.{NotNext, Of}
+use Rattle.store_moves.specs.Next.{Due, next_from, next_of, hop_of, replace_at, moved_at, renumbered_to, renumbered_at, Changed, changes}
 use Rattle.store_moves.specs.Next.{not-next}
 use Rattle.store_moves.specs.Next.{refused, moved_in, renumber_in}
-use Rattle.store_moves.specs.Calls.{next_told, on_table, Changes}
+use Rattle.store_moves.specs.Calls.{Change, next_told, on_table, Changes}
 use Rattle.store_moves.specs.Steps.{Within, gap_tells, tried_in}
 
 -- ---- numbers
-
-pub number-low : (x : ℕ) → x < 1 → false ≡ is_number x
-number-low x h = rw (lt-leb 1 x h)
-
-pub number-high : (x : ℕ) → 1 ≤ x → most_number < x → false ≡ is_number x
-number-high x h g = rw (le-leb 1 x h, lt-leb x most_number g)
 
 pub number_is : (x : ℕ) → 1 ≤ x → x ≤ most_number → true ≡ is_number x
 number_is x h g = rw (le-leb 1 x h, le-leb x most_number g)
 
 -- ---- the next move, and the octets moved, row by row
 
-module _ (t : List ℕ) (n i at : ℕ) where
-  pub next-end : n ≤ i → Closed ≡ next_from i at (left t n i)
+-- none of the i greetings seen is to be moved, and they end at `at`
+pub record Looking (t : List ℕ) (n i at : ℕ) (rest : List Row) : Type 0 where
+  pub next : next_from 0 0 (rows_at t n 1) ≡ next_from i at rest
+  pub left_is : left t n i ≡ rest
+  pub ends : at ≡ held (rows_at t i 1)
+
+pub looking-start : (t : List ℕ) (n : ℕ) {rest : List Row} {i : ℕ} → i ≡ 0 → rest ≡ rows_at t n 1 → Looking t n i 0 rest
+unfolding held rows_at
+looking-start t n z e = rw (z, e) (record { next = refl; left_is = sym (left-all t n); ends = refl })
+
+module _ {t : List ℕ} {n i at : ℕ} {rest : List Row} (k : Looking t n i at rest) where
+  pub looking-end : rest ≡ [] → None ≡ next_from 0 0 (rows_at t n 1)
   unfolding next_from
-  next-end h = rw (left-none t n i h)
+  looking-end e = sym (rw e at k.next)
 
-  module _ {r : Row} (e : r ≡ row_at t (1 + 3 * i)) (h : i < n) where
-    pub next_here : (r.start ≡ at → ⊥) → Goes i at ≡ next_from i at (left t n i)
+  module _ {r : Row} {rs : List Row} (e : rest ≡ r ∷ rs) where
+    pub looking-few : i < n
+    looking-few = omega (arith, ap length (k.left_is ∙ e), length-rows t (n - i) (1 + 3 * i))
+
+    looking-step : row_at t (1 + 3 * i) ∷ left t n (i + 1) ≡ r ∷ rs
+    looking-step = sym (left_step t n i refl looking-few) ∙ k.left_is ∙ e
+
+    pub looking-row : r ≡ row_at t (1 + 3 * i)
+    looking-row = let z = looking-step in cc
+
+    looking-rest : left t n (i + 1) ≡ rs
+    looking-rest = let z = looking-step in cc
+
+    pub looking_here : (r.start ≡ at → ⊥) → (Some (i, at) ≡ next_from 0 0 (rows_at t n 1)) × Within t n (Some (i, at))
+    unfolding next_from Within
+    looking_here f = (sym (rw (e, ne_eqb r.start at f) at k.next), (looking-few, k.ends))
+
+    pub looking-turn : {j : ℕ} → j ≡ i + 1 → r.start ≡ at → Looking t n j (r.start + r.octets) rs
     unfolding next_from
-    next_here f = rw (left_step t n i e h, ne_eqb r.start at f)
+    looking-turn h f =
+        let g = rw (e, eq-eqb r.start at f) at k.next in
+        rw (h, f) (record { next = g; left_is = looking-rest; ends = held-turn t i looking-row k.ends })
 
-    pub next-turn : r.start ≡ at → next_from i at (left t n i) ≡ next_from (i + 1) (r.start + r.octets) (left t n (i + 1))
-    unfolding next_from
-    next-turn f = rw (left_step t n i e h, eq-eqb r.start at f, f)
+-- the octets moved so far, and the rows that are left
+pub record Summing (rows : List Row) (size to moved : ℕ) (rest : List Row) : Type 0 where
+  pub all : moved + moved_from to rest ≡ moved_from 0 rows
+  pub few : moved ≤ to
+  pub inside : to + held rest ≤ size
 
-pub moved_same : (start to octets : ℕ) → start ≡ to → 0 ≡ moved_one start to octets
-moved_same start to octets e = rw (eq-eqb start to e)
+module _ (t : List ℕ) (n size : ℕ) where
+  pub summing-start : {rest : List Row} → n ≡ get_or t 0 0 → Ordered size t → rest ≡ rows_at t n 1 → Summing (rows_of t) size 0 0 rest
+  summing-start c o e =
+      let all = e ∙ ap (λ (k : ℕ). rows_at t k 1) c in
+      record {
+        all = omega (arith, ap (λ (r : List Row). moved_from 0 r) all);
+        few = omega arith;
+        inside = omega (arith, ap held all, rising-within 1 size (rows_of t) o.rises);
+      }
 
-pub moved-away : (start to octets : ℕ) → (start ≡ to → ⊥) → octets ≡ moved_one start to octets
-moved-away start to octets f = rw (ne_eqb start to f)
+module _ {rows : List Row} {size to moved : ℕ} {rest : List Row} (s : Summing rows size to moved rest) where
+  module _ {r : Row} {rs : List Row} (e : rest ≡ r ∷ rs) where
+    pub summing-room : to + r.octets ≤ size
+    unfolding held
+    summing-room = let i = rw e at s.inside in omega (arith, i)
 
-pub moved-turn : (t : List ℕ) (i : ℕ) {r : Row} {to m k : ℕ} → r ≡ row_at t (1 + 3 * i) → to ≡ held (rows_at t i 1)
-    → m ≡ moved_from 0 (rows_at t i 1) → k ≡ moved_one r.start to r.octets → m + k ≡ moved_from 0 (rows_at t (i + 1) 1)
-moved-turn t i {r} {to} {m} {k} e h f g =
-    let z : 0 + held (rows_at t i 1) ≡ held (rows_at t i 1) = omega arith in
-    let s = rw z at (moved-snoc 0 (rows_at t i 1) (row_at t (1 + 3 * i))) in
-    let row = row_at t (1 + 3 * i) in
-    let q : k ≡ moved_one row.start (held (rows_at t i 1)) row.octets =
-    g ∙ ap (λ (x : Row). moved_one x.start to x.octets) e ∙ ap (λ (x : ℕ). moved_one row.start x row.octets) h in
-    rw (rows_snoc t i 1) (omega (arith, s, q, f))
+    module _ {m : ℕ} (q : m ≡ moved_one r.start to r.octets) where
+      pub summing-few : moved + m ≤ to + r.octets
+      summing-few = omega (arith, q, moved-few r.start to r.octets, s.few)
+
+      pub summing-turn : Summing rows size (to + r.octets) (moved + m) rs
+      unfolding moved_from held
+      summing-turn =
+          let a = rw e at s.all in
+          let i = rw e at s.inside in
+          record { all = omega (arith, q, a); few = summing-few; inside = omega (arith, i) }
+
+  pub summing-end : rest ≡ [] → moved ≡ moved_from 0 rows
+  unfolding moved_from
+  summing-end e = let a = rw e at s.all in omega (arith, a)
 
 -- ---- one cell of a row told anew
 
@@ -157,13 +193,13 @@ module _ (t : List ℕ) (n i : ℕ) (c : n ≡ get_or t 0 0) (h : 1 + 3 * n ≤ 
 
 -- ---- a call that changes the table
 
-pub denied : {o : Changed} {w : Refusal} (t : List ℕ) → o ≡ refused w → Changes o t t (Denied w)
+pub denied : {o : Changed} {w : Refusal} (t : List ℕ) → o ≡ refused w → Changes o t t (Err (Of w))
 denied t e = rw e (record { answer = refl; table = refl })
 
-pub is-not-next : {o : Changed} (t : List ℕ) → o ≡ not-next → Changes o t t NotNext
+pub is-not-next : {o : Changed} (t : List ℕ) → o ≡ not-next → Changes o t t (Err NotNext)
 is-not-next t e = rw e (record { answer = refl; table = refl })
 
-pub made : {o : Changed} {rows : List Row} {t' : List ℕ} (t : List ℕ) → o ≡ changes rows → t' ≡ laid rows t → Changes o t t' Done
+pub made : {o : Changed} {rows : List Row} {t' : List ℕ} (t : List ℕ) → o ≡ changes rows → t' ≡ laid rows t → Changes o t t' (Ok tt)
 made t e f = rw e (record { answer = refl; table = f })
 
 module _ (rows : List Row) (x to : ℕ) where
@@ -177,11 +213,11 @@ module _ (rows : List Row) (x to : ℕ) where
     moved-absent f = rw (e, f)
 
     module _ (f : absent x rows ≡ false) where
-      pub moved-closed : next_of rows ≡ Closed → moved_in rows x to ≡ not-next
+      pub moved-closed : next_of rows ≡ None → moved_in rows x to ≡ not-next
       unfolding moved_in
       moved-closed g = rw (e, f, g)
 
-      module _ {i at : ℕ} (g : next_of rows ≡ Goes i at) where
+      module _ {i at : ℕ} (g : next_of rows ≡ Some (i, at)) where
         pub moved_other : ((nth i rows).number ≡ x → ⊥) → moved_in rows x to ≡ not-next
         unfolding moved_in
         moved_other n = rw (e, f, g, ne_eqb (nth i rows).number x n)
@@ -219,10 +255,10 @@ module _ (rows : List Row) (x to : ℕ) where
 
 -- ---- what a put would tell
 
-fitted-tells : (b : List ℕ) (rows : List Row) (notes : List Note) (law x : ℕ) (xs : List ℕ) (p : Gap)
+fitted-tells : (b : List ℕ) (rows : List Row) (notes : List Note) (law x : ℕ) (xs : List ℕ) (p : Option (ℕ × ℕ))
     → answer_of (leaves (put_at b rows notes law x xs p)) ≡ gap_tells rows p
-fitted-tells b rows notes law x xs (At i at) = refl
-fitted-tells b rows notes law x xs Nowhere = refl
+fitted-tells b rows notes law x xs (Some (i, at)) = refl
+fitted-tells b rows notes law x xs None = refl
 
 -- put's tests in their order: what it would answer
 pub tried-put : (b : List ℕ) (size : ℕ) (rows : List Row) (notes : List Note) (law x : ℕ) (xs : List ℕ)
@@ -237,9 +273,9 @@ tried-put b size rows notes law x xs =
     go : (l n f g q r : Bool) → answer_of (cond (not l) (declined Law)
         (cond (not n) (declined Number) (cond (not f) (declined Taken) (cond g (declined Bad) (cond q (declined Full)
         (cond r (declined NoRoom) (leaves (fitted b rows notes size law x xs))))))))
-        ≡ cond (not l) (Refused Law)
-        (cond (not n) (Refused Number) (cond (not f) (Refused Taken) (cond g (Refused Bad) (cond q (Refused Full)
-        (cond r (Refused NoRoom) (gap_tells rows (lowest_gap (length xs) size rows)))))))
+        ≡ cond (not l) (Err Law)
+        (cond (not n) (Err Number) (cond (not f) (Err Taken) (cond g (Err Bad) (cond q (Err Full)
+        (cond r (Err NoRoom) (gap_tells rows (lowest_gap (length xs) size rows)))))))
     go false n f g q r = refl
     go true false f g q r = refl
     go true true false g q r = refl
@@ -249,32 +285,32 @@ tried-put b size rows notes law x xs =
     go true true true false false false = fits
 
 module _ (size : ℕ) (rows : List Row) (law x : ℕ) (xs : List ℕ) where
-  pub tried-law : most_law < law → Refused Law ≡ tried_in size rows law x xs
+  pub tried-law : most_law < law → Err Law ≡ tried_in size rows law x xs
   unfolding tried_in
   tried-law h = rw (lt-leb law most_law h)
 
   module _ (l : law ≤ most_law) where
-    pub tried-number : is_number x ≡ false → Refused Number ≡ tried_in size rows law x xs
+    pub tried-number : is_number x ≡ false → Err Number ≡ tried_in size rows law x xs
     unfolding tried_in
     tried-number n = rw (le-leb law most_law l, n)
 
     module _ (n : is_number x ≡ true) where
-      pub tried-taken : absent x rows ≡ false → Refused Taken ≡ tried_in size rows law x xs
+      pub tried-taken : absent x rows ≡ false → Err Taken ≡ tried_in size rows law x xs
       unfolding tried_in
       tried-taken f = rw (le-leb law most_law l, n, f)
 
       module _ (f : absent x rows ≡ true) where
-        pub tried-bad : is_bad law xs ≡ true → Refused Bad ≡ tried_in size rows law x xs
+        pub tried-bad : is_bad law xs ≡ true → Err Bad ≡ tried_in size rows law x xs
         unfolding tried_in
         tried-bad g = rw (le-leb law most_law l, n, f, g)
 
         module _ (g : is_bad law xs ≡ false) where
-          pub tried-full : 32 ≤ length rows → Refused Full ≡ tried_in size rows law x xs
+          pub tried-full : 32 ≤ length rows → Err Full ≡ tried_in size rows law x xs
           unfolding tried_in
           tried-full q = rw (le-leb law most_law l, n, f, g, le-leb 32 (length rows) q)
 
           module _ (q : length rows < 32) where
-            pub tried-no-room : size < held rows + length xs → Refused NoRoom ≡ tried_in size rows law x xs
+            pub tried-no-room : size < held rows + length xs → Err NoRoom ≡ tried_in size rows law x xs
             unfolding tried_in
             tried-no-room r = rw (le-leb law most_law l, n, f, g, lt-leb 32 (length rows) q, lt-ltb size (held rows + length xs) r)
 
@@ -285,15 +321,21 @@ module _ (size : ℕ) (rows : List Row) (law x : ℕ) (xs : List ℕ) where
 
 -- ---- a number looked for
 
-module _ (t : List ℕ) {n f : ℕ} (x : ℕ) (c : n ≡ get_or t 0 0) (e : f ≡ find_from x 0 (left t n 0)) where
-  pub find-place : f ≡ find_from x 0 (rows_of t)
-  find-place = e ∙ ap (λ (r : List Row). find_from x 0 r) (sym (left-all t n)) ∙ ap (λ (k : ℕ). find_from x 0 (rows_at t k 1)) c
+same-not : (a b : Bool) → not a ≡ not b → a ≡ b
+same-not true true e = refl
+same-not true false e = sym e
+same-not false true e = sym e
+same-not false false e = refl
 
-  pub find-held : f < n → absent x (rows_of t) ≡ false
-  find-held h = found_here x 0 (get_or t 0 0) (rows_of t) find-place (omega (arith, length-rows t (get_or t 0 0) 1)) (omega arith)
+module _ (t : List ℕ) (x : ℕ) {o : Option ℕ} {b : Bool} (e : o ≡ place_of x (rows_of t)) where
+  pub find-held : b ≡ is_some o → b ≡ true → absent x (rows_of t) ≡ false
+  find-held f g = not-true _ (sym (place-there x (rows_of t)) ∙ ap is_some (sym e) ∙ sym f ∙ g)
 
-  pub find_none : n ≤ f → absent x (rows_of t) ≡ true
-  find_none h = found_nowhere x 0 (get_or t 0 0) (rows_of t) find-place (omega (arith, length-rows t (get_or t 0 0) 1)) (omega arith)
+  pub find-free : b ≡ is_some o → b ≡ false → absent x (rows_of t) ≡ true
+  find-free f g = not-false _ (sym (place-there x (rows_of t)) ∙ ap is_some (sym e) ∙ sym f ∙ g)
+
+  pub find-is : {a : Bool} → is_some o ≡ not b → b ≡ a → absent x (rows_of t) ≡ a
+  find-is f g = same-not _ _ (sym (place-there x (rows_of t)) ∙ ap is_some (sym e) ∙ f) ∙ g
 
 -- ---- TABLE first
 
@@ -307,14 +349,14 @@ module _ {size : ℕ} {s : Bool} (b t : List ℕ) (e : size ≡ size_of b) (f : 
   pub table_on : s ≡ true → (o : Changed) → on_table (size_of b) t o ≡ o
   table_on g o = rw (judged ∙ g)
 
-  pub next-off : s ≡ false → Untold Table ≡ next_told b t
+  pub next-off : s ≡ false → Err Table ≡ next_told b t
   next-off g = rw (judged ∙ g)
 
-  pub next-on : {h : Hop} → s ≡ true → h ≡ hop_of (rows_of t) (next_of (rows_of t)) → Asked h ≡ next_told b t
+  pub next-on : {h : Hop} → s ≡ true → h ≡ hop_of (rows_of t) (next_of (rows_of t)) → Ok h ≡ next_told b t
   next-on g h = rw (judged ∙ g, h)
 
   module _ (law x : ℕ) (xs : List ℕ) where
-    pub try-off : s ≡ false → Refused Table ≡ answer_of (put_of b t law x xs)
+    pub try-off : s ≡ false → Err Table ≡ answer_of (put_of b t law x xs)
     try-off g = rw (judged ∙ g)
 
     pub try-on : {r : Answer} → s ≡ true → r ≡ tried_in size (rows_of t) law x xs → r ≡ answer_of (put_of b t law x xs)
@@ -326,7 +368,7 @@ module _ {size : ℕ} {s : Bool} (b t : List ℕ) (e : size ≡ size_of b) (f : 
 abbrev hop_as : Row → ℕ → Hop
 hop_as r at = record { number = r.number; from = r.start; to = at; octets = r.octets }
 
-pub within-goes : (t : List ℕ) (n : ℕ) {d : Due} {i at : ℕ} → d ≡ Goes i at → Within t n d → (i < n) × (at ≡ held (rows_at t i 1))
+pub within-goes : (t : List ℕ) (n : ℕ) {d : Due} {i at : ℕ} → d ≡ Some (i, at) → Within t n d → (i < n) × (at ≡ held (rows_at t i 1))
 unfolding Within
 within-goes t n e w = rw e at w
 
@@ -334,11 +376,11 @@ module _ (t : List ℕ) {n : ℕ} {d : Due} (c : n ≡ get_or t 0 0) where
   pub next-is : {x : Due} → d ≡ x → d ≡ next_from 0 0 (rows_at t n 1) → next_of (rows_of t) ≡ x
   next-is e f = ap (λ (k : ℕ). next_from 0 0 (rows_at t k 1)) (sym c) ∙ sym f ∙ e
 
-  pub hop-none : d ≡ Closed → d ≡ next_from 0 0 (rows_at t n 1)
+  pub hop-none : d ≡ None → d ≡ next_from 0 0 (rows_at t n 1)
       → ◌≡◌ {A = Hop} (record { number = 0; from = 0; to = 0; octets = 0 }) (hop_of (rows_of t) (next_of (rows_of t)))
   hop-none e f = ap (λ (x : Due). hop_of (rows_of t) x) (sym (next-is e f))
 
-  pub hop-next : {i at : ℕ} {r : Row} → d ≡ Goes i at → d ≡ next_from 0 0 (rows_at t n 1) → Within t n d → r ≡ row_at t (1 + 3 * i)
+  pub hop-next : {i at : ℕ} {r : Row} → d ≡ Some (i, at) → d ≡ next_from 0 0 (rows_at t n 1) → Within t n d → r ≡ row_at t (1 + 3 * i)
       → ◌≡◌ {A = Hop} (record { number = r.number; from = r.start; to = at; octets = r.octets }) (hop_of (rows_of t) (next_of (rows_of t)))
   hop-next {i} {at} {r} e f w g =
       let q : r ≡ nth i (rows_of t) =
@@ -347,11 +389,11 @@ module _ (t : List ℕ) {n : ℕ} {d : Due} (c : n ≡ get_or t 0 0) where
 
 -- ---- what a put tells, by the gap
 
-pub tells-gap : {p : Gap} {i at : ℕ} (rows : List Row) → At i at ≡ p → Tells at 0 ≡ gap_tells rows p
-tells-gap rows e = ap (λ (q : Gap). gap_tells rows q) e
+pub tells-gap : {p : Option (ℕ × ℕ)} {i at : ℕ} (rows : List Row) → Some (i, at) ≡ p → Ok (at, 0) ≡ gap_tells rows p
+tells-gap rows e = ap (λ (q : Option (ℕ × ℕ)). gap_tells rows q) e
 
-pub tells-behind : {p : Gap} {h m : ℕ} (rows : List Row) → Nowhere ≡ p → h ≡ held rows → m ≡ moved_from 0 rows → Tells h m ≡ gap_tells rows p
-tells-behind rows e f g = rw (f, g) (ap (λ (q : Gap). gap_tells rows q) e)
+pub tells-behind : {p : Option (ℕ × ℕ)} {h m : ℕ} (rows : List Row) → None ≡ p → h ≡ held rows → m ≡ moved_from 0 rows → Ok (h, m) ≡ gap_tells rows p
+tells-behind rows e f g = rw (f, g) (ap (λ (q : Option (ℕ × ℕ)). gap_tells rows q) e)
 
 pub same-changes : {o q : Changed} {t t' : List ℕ} {r : Change} → o ≡ q → Changes q t t' r → Changes o t t' r
 same-changes e c = rw e c

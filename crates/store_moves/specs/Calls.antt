@@ -3,40 +3,54 @@ use Rattle.std.specs.Prelude.{ℕ, ◌≡◌, List, cond, not}
 use Rattle.store_rows.specs.Limits.{size_of}
 use Rattle.store_rows.specs.Cells.{rows_of, laid}
 use Rattle.store_notes.specs.Sane.{sane_store}
+use Rattle.std.specs.declared.result.Result.{Result}
+use Rattle.std.specs.Prelude.{Ok, Err}
+use Rattle.rules.specs.Refusals.{numbered}
+use Rattle.store.specs.declared.Refusal.{Refusal}
 use Rattle.store.specs.declared.Refusal.TheVariants.{Table}
-use Rattle.store.specs.declared.Answer.{Answer}
-use Rattle.store.specs.Calls.{refusal_number, answer_of, put_of}
+use Rattle.store.specs.Calls.{Answer, refusal_number, refusal-not-zero, answer_of, put_of}
 use Rattle.store_moves.specs.declared.calls.Hop.{Hop}
-use Rattle.store_moves.specs.declared.calls.Told.{Told}
-use Rattle.store_moves.specs.declared.calls.Told.TheVariants.{Asked, Refused as Untold}
-use Rattle.store_moves.specs.declared.calls.Change.{Change}
-use Rattle.store_moves.specs.declared.calls.Change.TheVariants.{Done, NotNext, Refused}
+use Rattle.store_moves.specs.declared.calls.Unmoved.{Unmoved}
+use Rattle.store_moves.specs.declared.calls.Unmoved.TheVariants.{NotNext, Of}
 use Rattle.store_moves.specs.Record.{move_number}
 use Rattle.store_moves.specs.Next.{next_of, hop_of, Changed, changes, not-next, refused, moved_in, renumber_in}
 
+-- the number of what refuses a change; no such refusal has 0
+abbrev pub unmoved_number : Unmoved → ℕ
+unmoved_number NotNext = move_number
+unmoved_number (Of w) = refusal_number w
+
+pub unmoved-not-zero : (u : Unmoved) → unmoved_number u ≡ 0 → ⊥
+unmoved-not-zero NotNext e = cc
+unmoved-not-zero (Of w) e = refusal-not-zero w e
+
+-- what is told, or the refusal; a table changed, or why not
+abbrev pub Told : Type 0
+Told = Result Hop Refusal
+
+abbrev pub Change : Type 0
+Change = Result (Unit {0}) Unmoved
+
 -- the number of a call; an accepted one has 0
 abbrev pub told_number : Told → ℕ
-told_number (Asked h) = 0
-told_number (Untold w) = refusal_number w
+told_number = numbered refusal_number
 
 abbrev pub change_number : Change → ℕ
-change_number Done = 0
-change_number NotNext = move_number
-change_number (Refused w) = refusal_number w
+change_number = numbered unmoved_number
 
 -- "the next move of closing up"; a refused call reports zeros
 abbrev pub told_hop : Told → Hop
-told_hop (Asked h) = h
-told_hop (Untold w) = record { number = 0; from = 0; to = 0; octets = 0 }
+told_hop (Ok h) = h
+told_hop (Err w) = record { number = 0; from = 0; to = 0; octets = 0 }
 
 abbrev pub next_told : List ℕ → List ℕ → Told
-next_told b t = cond (not (sane_store (size_of b) t)) (Untold Table) (Asked (hop_of (rows_of t) (next_of (rows_of t))))
+next_told b t = cond (not (sane_store (size_of b) t)) (Err Table) (Ok (hop_of (rows_of t) (next_of (rows_of t))))
 
 -- what a call that changes the table answers and leaves of it: "nothing else changes"
 abbrev pub change_of : Changed → Change
-change_of (changes rows) = Done
-change_of not-next = NotNext
-change_of (refused w) = Refused w
+change_of (changes rows) = Ok tt
+change_of not-next = Err NotNext
+change_of (refused w) = Err (Of w)
 
 abbrev pub table_of : Changed → List ℕ → List ℕ
 table_of (changes rows) t = laid rows t

@@ -1,5 +1,5 @@
 -- Closing up (document 02, R-6) as moves of one greeting each: the next move, a greeting moved, and a greeting renumbered.
-use Rattle.std.specs.Prelude.{ℕ, ◌+◌, List, [], ◌∷◌, ◌++◌, cond, not, take, drop, eqb}
+use Rattle.std.specs.Prelude.{ℕ, ◌+◌, List, [], ◌∷◌, ◌++◌, cond, not, take, drop, eqb, Option, Some, None}
 use Rattle.store_rows.specs.declared.rows.Row.{Row}
 use Rattle.store_rows.specs.Limits.{is_number}
 use Rattle.store_rows.specs.Rows.{row_of}
@@ -8,24 +8,26 @@ use Rattle.store_rows.specs.Changed.{nth}
 use Rattle.store_rows.specs.Closing.{moved_to}
 use Rattle.store.specs.declared.Refusal.{Refusal}
 use Rattle.store.specs.declared.Refusal.TheVariants.{Number, Absent, Taken}
-use Rattle.store_moves.specs.declared.calls.Due.{Due}
-use Rattle.store_moves.specs.declared.calls.Due.TheVariants.{Goes, Closed}
 use Rattle.store_moves.specs.declared.calls.Hop.{Hop}
+
+-- how many greetings stand before the next to be moved, and where it goes; or all are where closing up puts them
+abbrev pub Due : Type 0
+Due = Option (ℕ × ℕ)
 
 -- the first greeting, "in order of start, that is not where closing up puts it": how many stand before it, and where it goes. The i
 -- greetings before these end at `at`.
 unfoldable pub next_from : ℕ → ℕ → List Row → Due
-next_from i at [] = Closed
-next_from i at (r ∷ rows) = cond (eqb r.start at) (next_from (i + 1) (at + r.octets) rows) (Goes i at)
+next_from i at [] = None
+next_from i at (r ∷ rows) = cond (eqb r.start at) (next_from (i + 1) (at + r.octets) rows) (Some (i, at))
 
 abbrev pub next_of : List Row → Due
 next_of rows = next_from 0 0 rows
 
 -- "number, from, to, octets"; "zeros where all are" where closing up puts them
 abbrev pub hop_of : List Row → Due → Hop
-hop_of rows (Goes i at) =
+hop_of rows (Some (i, at)) =
     record { number = (nth i rows).number; from = (nth i rows).start; to = at; octets = (nth i rows).octets }
-hop_of rows Closed = record { number = 0; from = 0; to = 0; octets = 0 }
+hop_of rows None = record { number = 0; from = 0; to = 0; octets = 0 }
 
 -- another row in the place of the one at i
 abbrev pub replace_at : ℕ → Row → List Row → List Row
@@ -50,9 +52,9 @@ pub data Changed : Type 0 where
 
 -- "MOVE (27) where it is not the next move; with no next move every held number is MOVE, also to its own start"
 abbrev pub moved_by : List Row → ℕ → ℕ → Due → Changed
-moved_by rows number to (Goes i at) =
+moved_by rows number to (Some (i, at)) =
     cond (eqb (nth i rows).number number) (cond (eqb at to) (changes (moved_at i at rows)) not-next) not-next
-moved_by rows number to Closed = not-next
+moved_by rows number to None = not-next
 
 -- "NUMBER, ABSENT, MOVE"
 unfoldable pub moved_in : List Row → ℕ → ℕ → Changed

@@ -1,26 +1,19 @@
 // Closing up (document 02, R-6) as moves of one greeting each, so that a cut of power finds every greeting whole: the next move, a greeting
 // moved, a greeting renumbered, and what a put would answer. What each call answers and leaves stands in specs/Calls.
 ghost use Rattle.std.specs.Prelude.{◌≡◌, ◌+◌, ◌≤◌, ◌<◌, length, get_or};
-ghost use Rattle.store_rows.specs.Limits.{is_number as in_range, largest_block};
+ghost use Rattle.store_rows.specs.Limits.{largest_block};
 ghost use Rattle.store_rows.specs.Rows.{held as held_by};
 ghost use Rattle.store_rows.specs.Finding.{lowest_gap};
 ghost use Rattle.store_rows.specs.Cells.{rows_at, rows_of};
 ghost use Rattle.store_rows.specs.Sane.{Ordered};
 ghost use Rattle.store_notes.specs.Sane.{Noted};
-ghost use Rattle.store_rows.specs.Closing.{moved_one, moved_from};
+ghost use Rattle.store_rows.specs.Closing.{moved_from};
 ghost use Rattle.store_moves.specs.Next.{next_from, next_of, hop_of, moved_in, renumber_in};
-ghost use Rattle.store_moves.specs.Calls.{told_number, change_number, told_hop, next_told, Changes, Moved, Renumber, Try};
+ghost use Rattle.store_moves.specs.Calls.{unmoved_number, unmoved-not-zero, told_hop, next_told, Changes, Moved, Renumber, Try};
 ghost use Rattle.store_moves.specs.Steps.{Within, gap_tells, tried_in};
 
+use rules::Numbered;
 use store::{Answer, Refusal};
-use store_rows::rows::Gap;
-
-// How many greetings stand before the next to be moved, and where it goes; or all are where closing up puts them.
-#[derive(Drop)]
-pub enum Due {
-    Goes(usize, usize),
-    Closed,
-}
 
 // A move: the greeting's number, where its octets lie, where they go, and how many they are.
 #[derive(Clone, Copy)]
@@ -31,38 +24,29 @@ pub struct Hop {
     pub octets: usize,
 }
 
+pub type Told = Result<Hop, Refusal>;
+
+// Why a call changes nothing: MOVE is NotNext.
 #[derive(Clone, Copy)]
-pub enum Told {
-    Asked(Hop),
-    Refused(Refusal),
-}
-
-// MOVE is NotNext.
-#[derive(Drop)]
-pub enum Change {
-    Done,
+pub enum Unmoved {
     NotNext,
-    Refused(Refusal),
+    Of(Refusal),
 }
 
-pub fn told_number(t: Told) -> u32
-    ensures { result ≡ told_number t }
-{
-    match t {
-        Told::Asked(_) => 0,
-        Told::Refused(why) => store::refusal_number(why),
+impl Numbered for Unmoved {
+    ghost number = { unmoved_number };
+
+    ghost never_zero = { unmoved-not-zero };
+
+    fn number(self) -> u32 {
+        match self {
+            Unmoved::NotNext => crate::steps::MOVE,
+            Unmoved::Of(why) => why.number(),
+        }
     }
 }
 
-pub fn change_number(c: Change) -> u32
-    ensures { result ≡ change_number c }
-{
-    match c {
-        Change::Done => 0,
-        Change::NotNext => crate::steps::MOVE,
-        Change::Refused(why) => store::refusal_number(why),
-    }
-}
+pub type Change = Result<(), Unmoved>;
 
 fn no_hop() -> Hop
     ensures { result ≡ record { number = 0; from = 0; to = 0; octets = 0 } }
@@ -79,41 +63,23 @@ fn no_hop() -> Hop
 pub fn told_hop(t: Told) -> Hop
     ensures { result ≡ told_hop t }
 {
-    match t {
-        Told::Asked(hop) => hop,
-        Told::Refused(_) => no_hop(),
-    }
+    t.unwrap_or(no_hop())
 }
 
-// "a number from 1 to 65,535"
-fn is_number(x: usize) -> bool
-    ensures { result ≡ in_range x }
-{
-    if x < 1 {
-        return false;
-    }
-    if store_rows::rows::MOST_NUMBER < x {
-        return false;
-    }
-    true
-}
-
-// The first greeting, "in order of start, that is not where closing up puts it".
-fn next_move(table: &[u32], n: usize) -> Due
+// The first greeting, "in order of start, that is not where closing up puts it": how many stand before it, and where it goes.
+// None where all are there.
+fn next_move(table: &[u32], n: usize) -> Option<(usize, usize)>
     requires { (n ≤ 32) × (97 ≤ length table.now) }
     ensures { (result ≡ next_from 0 0 (rows_at table.now n 1)) × Within table.now n result }
 {
     let mut at = 0;
-    let mut i = 0;
-    while i < n {
-        let r = store_rows::rows::row_at(table, 1 + 3 * i);
+    for (i, r) in store_rows::rows::greetings(table, n).enumerate() {
         if r.start != at {
-            return Due::Goes(i, at);
+            return Some((i, at));
         }
         at = r.start + r.octets;
-        i += 1;
     }
-    Due::Closed
+    None
 }
 
 // The next move, with its greeting's numbers.
@@ -121,10 +87,10 @@ fn hop_in(table: &[u32], size: usize) -> Hop
     requires { Ordered size table.now }
     ensures { result ≡ hop_of (rows_of table.now) (next_of (rows_of table.now)) }
 {
-    let n = store_rows::rows::wide(table[0]);
+    let n = table[0] as usize;
     match next_move(table, n) {
-        Due::Closed => no_hop(),
-        Due::Goes(i, at) => {
+        None => no_hop(),
+        Some((i, at)) => {
             let r = store_rows::rows::row_at(table, 1 + 3 * i);
             Hop {
                 number: r.number,
@@ -142,9 +108,9 @@ pub fn next(block: &[u8], table: &[u32]) -> Told
 {
     let size = store_rows::rows::size_of(block.len());
     if !store_notes::sane(table, size) {
-        return Told::Refused(Refusal::Table);
+        return Err(Refusal::Table);
     }
-    Told::Asked(hop_in(table, size))
+    Ok(hop_in(table, size))
 }
 
 // NUMBER, ABSENT, MOVE; else the greeting's start is told anew.
@@ -152,26 +118,26 @@ fn moved_in(table: &mut [u32], size: usize, x: usize, to: u64) -> Change
     requires { Noted size table.old × (size ≤ largest_block) }
     ensures { Changes (moved_in (rows_of table.old) x to) table.old table.new result }
 {
-    if !is_number(x) {
-        return Change::Refused(Refusal::Number);
+    if !store_rows::rows::is_number(x) {
+        return Err(Unmoved::Of(Refusal::Number));
     }
-    let n = store_rows::rows::wide(table[0]);
-    if n <= store_rows::rows::find(table, n, 0, x) {
-        return Change::Refused(Refusal::Absent);
+    let n = table[0] as usize;
+    if store_rows::rows::find(table, n, x).is_none() {
+        return Err(Unmoved::Of(Refusal::Absent));
     }
     match next_move(table, n) {
-        Due::Closed => Change::NotNext,
-        Due::Goes(i, at) => {
+        None => Err(Unmoved::NotNext),
+        Some((i, at)) => {
             let k = 1 + 3 * i;
             let r = store_rows::rows::row_at(table, k);
             if r.number != x {
-                return Change::NotNext;
+                return Err(Unmoved::NotNext);
             }
             if at as u64 != to {
-                return Change::NotNext;
+                return Err(Unmoved::NotNext);
             }
             table[k + 1] = at as u32;
-            Change::Done
+            Ok(())
         }
     }
 }
@@ -182,9 +148,9 @@ pub fn moved(block: &[u8], table: &mut [u32], number: u32, to: u64) -> Change
 {
     let size = store_rows::rows::size_of(block.len());
     if !store_notes::sane(table, size) {
-        return Change::Refused(Refusal::Table);
+        return Err(Unmoved::Of(Refusal::Table));
     }
-    moved_in(table, size, store_rows::rows::wide(number), to)
+    moved_in(table, size, number as usize, to)
 }
 
 // NUMBER (either), ABSENT, TAKEN; else the greeting's number is told anew.
@@ -192,23 +158,21 @@ fn renumber_in(table: &mut [u32], size: usize, x: usize, to: u32) -> Change
     requires { Noted size table.old }
     ensures { Changes (renumber_in (rows_of table.old) x to) table.old table.new result }
 {
-    let y = store_rows::rows::wide(to);
-    if !is_number(x) {
-        return Change::Refused(Refusal::Number);
+    let y = to as usize;
+    if !store_rows::rows::is_number(x) || !store_rows::rows::is_number(y) {
+        return Err(Unmoved::Of(Refusal::Number));
     }
-    if !is_number(y) {
-        return Change::Refused(Refusal::Number);
+    let n = table[0] as usize;
+    match store_rows::rows::find(table, n, x) {
+        None => Err(Unmoved::Of(Refusal::Absent)),
+        Some(i) => {
+            if store_rows::rows::find(table, n, y).is_some() {
+                return Err(Unmoved::Of(Refusal::Taken));
+            }
+            table[1 + 3 * i] = to;
+            Ok(())
+        }
     }
-    let n = store_rows::rows::wide(table[0]);
-    let i = store_rows::rows::find(table, n, 0, x);
-    if n <= i {
-        return Change::Refused(Refusal::Absent);
-    }
-    if store_rows::rows::find(table, n, 0, y) < n {
-        return Change::Refused(Refusal::Taken);
-    }
-    table[1 + 3 * i] = to;
-    Change::Done
 }
 
 // "the greeting `number` has the number `to`": TABLE first.
@@ -217,19 +181,9 @@ pub fn renumber(block: &[u8], table: &mut [u32], number: u32, to: u32) -> Change
 {
     let size = store_rows::rows::size_of(block.len());
     if !store_notes::sane(table, size) {
-        return Change::Refused(Refusal::Table);
+        return Err(Unmoved::Of(Refusal::Table));
     }
-    renumber_in(table, size, store_rows::rows::wide(number), to)
-}
-
-// "those whose start changed"
-fn moved_one(start: usize, to: usize, octets: usize) -> usize
-    ensures { result ≡ moved_one start to octets }
-{
-    if start == to {
-        return 0;
-    }
-    octets
+    renumber_in(table, size, number as usize, to)
 }
 
 // "Octets moved": what closing up would report.
@@ -239,10 +193,8 @@ fn octets_moved(table: &[u32], n: usize, size: usize) -> usize
 {
     let mut to = 0;
     let mut moved = 0;
-    for i in 0..n {
-        let r = store_rows::rows::row_at(table, 1 + 3 * i);
-        let m = moved_one(r.start, to, r.octets);
-        moved += m;
+    for r in store_rows::rows::greetings(table, n) {
+        moved += store_rows::closing::moved_one(r.start, to, r.octets);
         to += r.octets;
     }
     moved
@@ -255,8 +207,8 @@ fn place(table: &[u32], n: usize, size: usize, want: usize, behind: usize) -> An
     ensures { result ≡ gap_tells (rows_of table.now) (lowest_gap want size (rows_of table.now)) }
 {
     match store_rows::rows::lowest_gap(table, n, size, want) {
-        Gap::At(_, at) => Answer::Done(at, 0),
-        Gap::Nowhere => Answer::Done(behind, octets_moved(table, n, size)),
+        Some((_, at)) => Ok((at, 0)),
+        None => Ok((behind, octets_moved(table, n, size))),
     }
 }
 
@@ -266,24 +218,24 @@ fn tried_in(table: &[u32], size: usize, law: u32, x: usize, octets: &[u8]) -> An
     ensures { result ≡ tried_in size (rows_of table.now) law x octets.now }
 {
     if rules::MOST_LAW < law {
-        return Answer::Refused(Refusal::Law);
+        return Err(Refusal::Law);
     }
-    if !is_number(x) {
-        return Answer::Refused(Refusal::Number);
+    if !store_rows::rows::is_number(x) {
+        return Err(Refusal::Number);
     }
-    let n = store_rows::rows::wide(table[0]);
-    if store_rows::rows::find(table, n, 0, x) < n {
-        return Answer::Refused(Refusal::Taken);
+    let n = table[0] as usize;
+    if store_rows::rows::find(table, n, x).is_some() {
+        return Err(Refusal::Taken);
     }
     if store_greeting::greetings::is_bad(octets, law) {
-        return Answer::Refused(Refusal::Bad);
+        return Err(Refusal::Bad);
     }
     if store_rows::rows::MOST_GREETINGS <= n {
-        return Answer::Refused(Refusal::Full);
+        return Err(Refusal::Full);
     }
     let behind = store_rows::rows::held(table, n, size);
     if size - behind < octets.len() {
-        return Answer::Refused(Refusal::NoRoom);
+        return Err(Refusal::NoRoom);
     }
     place(table, n, size, octets.len(), behind)
 }
@@ -294,7 +246,7 @@ pub fn try_put(block: &[u8], table: &[u32], law: u32, number: u32, octets: &[u8]
 {
     let size = store_rows::rows::size_of(block.len());
     if !store_notes::sane(table, size) {
-        return Answer::Refused(Refusal::Table);
+        return Err(Refusal::Table);
     }
-    tried_in(table, size, law, store_rows::rows::wide(number), octets)
+    tried_in(table, size, law, number as usize, octets)
 }

@@ -1,7 +1,6 @@
 // A move of octets down within one block, chunk by chunk, that a cut of power may stop anywhere: one step, and the record after it.
 // What a step leaves stands in specs/Moves, what the record's words mean in specs/Record.
-ghost use Rattle.std.specs.Prelude.{◌≡◌, ◌+◌, ◌-◌, ◌≤◌, ◌<◌, min, length, drop};
-ghost use Rattle.std.proofs.Math.Seq.{paste};
+ghost use Rattle.std.specs.Prelude.{◌≡◌, ◌+◌, ◌≤◌, ◌<◌, length};
 ghost use Rattle.store_moves.specs.Moves.{distance, lasts, onward, stepped, Tells};
 ghost use Rattle.store_moves.specs.Record.{move_of, sensible, told_by, words_of, words_for, MoveStep, Short, Fits};
 
@@ -23,25 +22,6 @@ pub enum State {
     Still,
     Moving(Move),
     Lifted(Move),
-}
-
-fn least(a: usize, b: usize) -> usize
-    ensures { result ≡ min a b }
-{
-    if a < b {
-        return a;
-    }
-    b
-}
-
-// n octets moved down, front to back.
-fn shift(block: &mut [u8], from: usize, to: usize, n: usize)
-    requires { (to ≤ from) × (from + n ≤ length block.old) }
-    ensures { block.new ≡ paste block.old to (drop from block.old) n }
-{
-    for i in 0..n {
-        block[to + i] = block[from + i];
-    }
 }
 
 // "`done` grows": so many more are done.
@@ -72,12 +52,12 @@ fn hop_or_lift(block: &mut [u8], spare: &mut [u8], m: Move) -> State
     let from = m.from + m.done;
     let size = spare.len();
     if size <= d {
-        let k = least(left, d);
-        shift(block, from, m.to + m.done, k);
+        let k = left.min(d);
+        store_rows::closing::shift(block, from, m.to + m.done, k);
         return grown(m, k);
     }
-    let end = from + least(left, size);
-    store_rows::placing::copy(spare, 0, &block[from..end]);
+    let end = from + left.min(size);
+    spare[..end - from].copy_from_slice(&block[from..end]);
     State::Lifted(m)
 }
 
@@ -88,8 +68,9 @@ fn lay(block: &mut [u8], spare: &[u8], m: Move) -> State
     ensures { stepped block.old spare.now (State.Lifted m)
         ≡ lasts block.new spare.now result }
 {
-    let k = least(m.octets - m.done, spare.len());
-    store_rows::placing::copy(block, m.to + m.done, &spare[..k]);
+    let k = (m.octets - m.done).min(spare.len());
+    let to = m.to + m.done;
+    block[to..to + k].copy_from_slice(&spare[..k]);
     grown(m, k)
 }
 
@@ -97,10 +78,10 @@ fn move_of(words: &[u32; 8]) -> Move
     ensures { result ≡ move_of words.now }
 {
     Move {
-        from: store_rows::rows::wide(words[2]),
-        to: store_rows::rows::wide(words[3]),
-        octets: store_rows::rows::wide(words[4]),
-        done: store_rows::rows::wide(words[5]),
+        from: words[2] as usize,
+        to: words[3] as usize,
+        octets: words[4] as usize,
+        done: words[5] as usize,
     }
 }
 
@@ -108,48 +89,25 @@ fn move_of(words: &[u32; 8]) -> Move
 fn makes_sense(size: usize, m: Move) -> bool
     ensures { result ≡ sensible size m }
 {
-    if m.from <= m.to {
-        return false;
-    }
-    if size < m.octets {
-        return false;
-    }
-    if size - m.octets < m.from {
-        return false;
-    }
-    if m.octets <= m.done {
-        return false;
-    }
-    true
+    m.to < m.from && m.octets <= size && m.from <= size - m.octets && m.done < m.octets
 }
 
 // The move that the record's words tell of; still where they tell of none.
 fn told(size: usize, spare: usize, words: &[u32; 8]) -> State
     ensures { result ≡ told_by size spare words.now }
 {
-    if 1 < words[0] {
-        return State::Still;
-    }
-    if 0 < words[6] {
-        return State::Still;
-    }
-    if 0 < words[7] {
+    if 1 < words[0] || 0 < words[6] || 0 < words[7] {
         return State::Still;
     }
     let m = move_of(words);
     if !makes_sense(size, m) {
         return State::Still;
     }
-    if words[1] == 1 {
-        return State::Moving(m);
+    match words[1] {
+        1 => State::Moving(m),
+        2 if m.from - m.to < spare => State::Lifted(m),
+        _ => State::Still,
     }
-    if words[1] != 2 {
-        return State::Still;
-    }
-    if spare <= m.from - m.to {
-        return State::Still;
-    }
-    State::Lifted(m)
 }
 
 fn tell_move(next: &mut [u32; 8], page: u32, state: u32, m: Move)

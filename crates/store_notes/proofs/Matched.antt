@@ -1,7 +1,7 @@
--- Tables that calls leave, in the code's order: `matched-end`, `matched-law`, `matched-many`, `matched-turn`; `sane-short`, `sane-not`,
+-- Tables that calls leave, in the code's order: `matched-law`, `matched-many`, `matched-turn`; `sane-short`, `sane-not`,
 -- `sane-other`, `sane-rest`; `sane-noted` (what calls' steps rest on). `marks-fit`: the marks of all greetings are at most their octets /
 -- 64 and one for each, so there is always room for them (`room_for`, `room-more`).
-use Prim.Native.Nat.{ℕ, zero, suc, ◌+◌, ◌*◌, ◌≤◌, ◌<◌}
+use Prim.Native.Nat.{ℕ, zero, suc, ◌+◌, ◌*◌, ◌^◌, ◌≤◌, ◌<◌}
 use mathlib.Core.Path.{◌≡◌, refl, sym, ap, subst, ◌∙◌}
 use mathlib.Core.List.{List, [], ◌∷◌}
 use mathlib.Core.Bool.{Bool, true, false}
@@ -17,7 +17,7 @@ use Rattle.store_rows.specs.Rows.{held}
 use Rattle.store_rows.specs.Cells.{row_at, rows_at, rows_of}
 use Rattle.store_rows.specs.Sane.{sane_of, Ordered}
 use Rattle.store_rows.proofs.Lists.{passed, both}
-use Rattle.store_rows.proofs.Left.{left, left-none, left_step}
+use Rattle.store_rows.proofs.Left.{left, left_step}
 use Rattle.store_rows.proofs.Finding.{held-turn}
 use Rattle.store_rows.proofs.Judged.{sane-ordered, row_next}
 use Rattle.store_rows.proofs.Cells.{length-rows, row_is}
@@ -36,24 +36,18 @@ head-is t i =
     row_is (drop 97 t) (1 + 3 * i) (cell _ _ a) (cell _ _ b) (cell _ _ c)
 
 -- greetings and their second list, in the code's order
-module _ (t u : List ℕ) (n i : ℕ) where
-  pub matched-end : n ≤ i → true ≡ matched (left t n i) (left u n i)
+module _ (u : List ℕ) (n i : ℕ) (r : Row) (rs : List Row) {h : Row} (g : h ≡ row_at u (1 + 3 * i)) (f : i < n) where
+  pub matched-law : 1 < h.number → matched (r ∷ rs) (left u n i) ≡ false
   unfolding matched
-  matched-end h = rw (left-none t n i h)
+  matched-law a = rw (left_step u n i g f, lt-ltb 1 h.number a)
 
-  module _ {r h : Row} (e : r ≡ row_at t (1 + 3 * i)) (g : h ≡ row_at u (1 + 3 * i)) (f : i < n) where
-    pub matched-law : 1 < h.number → false ≡ matched (left t n i) (left u n i)
-    unfolding matched
-    matched-law a = rw (left_step t n i e f, left_step u n i g f, lt-ltb 1 h.number a)
+  pub matched-many : h.number ≤ 1 → most_marks r.octets < h.octets → matched (r ∷ rs) (left u n i) ≡ false
+  unfolding matched
+  matched-many a b = rw (left_step u n i g f, le-ltb 1 h.number a, lt-ltb (most_marks r.octets) h.octets b)
 
-    pub matched-many : h.number ≤ 1 → most_marks r.octets < h.octets → false ≡ matched (left t n i) (left u n i)
-    unfolding matched
-    matched-many a b = rw (left_step t n i e f, left_step u n i g f, le-ltb 1 h.number a, lt-ltb (most_marks r.octets) h.octets b)
-
-    pub matched-turn : h.number ≤ 1 → h.octets ≤ most_marks r.octets
-        → matched (left t n i) (left u n i) ≡ matched (left t n (i + 1)) (left u n (i + 1))
-    unfolding matched
-    matched-turn a b = rw (left_step t n i e f, left_step u n i g f, le-ltb 1 h.number a, le-ltb (most_marks r.octets) h.octets b)
+  pub matched-turn : h.number ≤ 1 → h.octets ≤ most_marks r.octets → matched (r ∷ rs) (left u n i) ≡ matched rs (left u n (i + 1))
+  unfolding matched
+  matched-turn a b = rw (left_step u n i g f, le-ltb 1 h.number a, le-ltb (most_marks r.octets) h.octets b)
 
 -- a lent table
 module _ (size : ℕ) (t : List ℕ) where
@@ -98,6 +92,12 @@ marks-fit (r ∷ rows) (h ∷ hs) e m =
     let rest = marks-fit rows hs (omega (arith, e)) b.1 in
     omega (arith, few, rest)
 
+-- cells are below 2^32
+pub held_small : (t : List ℕ) → ((j : ℕ) → get_or t j 0 < 2 ^ 32) → (n k : ℕ) → held (rows_at t n k) ≤ n * 2 ^ 32
+unfolding rows_at held
+held_small t f zero k = omega arith
+held_small t f (suc n) k = omega (arith, f (k + 2), held_small t f n (k + 3))
+
 -- the octets held by an ordered table lie inside the block
 held_none : (size : ℕ) (t : List ℕ) → held (rows_at t 0 1) ≤ size
 unfolding rows_at held
@@ -108,7 +108,7 @@ held-inside size t zero o e = held_none size t
 held-inside size t (suc i) o e =
     let next = row_next (suc i) i {r = row_at t (1 + 3 * i)} o e refl (omega arith) in
     let sum : held (rows_at t i 1) + (row_at t (1 + 3 * i)).octets ≡ held (rows_at t (i + 1) 1) =
-    held-turn t (suc i) i refl (omega arith) refl in
+    held-turn t i refl refl in
     subst (λ (k : ℕ). held (rows_at t k 1) ≤ size) (add-one i) (omega (arith, sum, next.above, next.inside))
 
 -- there is room for the marks of such a table, and for those of a greeting that fits besides

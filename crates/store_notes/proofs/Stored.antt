@@ -178,7 +178,7 @@ pub marks-next : (t : List ℕ) (n i : ℕ) → n ≡ get_or t 97 0 → i < n �
 marks-next t n i e h room =
     let o = marks-order t n (i + 1) e (omega arith) room in
     let sum : marks_held (rows_at (drop 97 t) i 1) + (head_at t i).marks ≡ marks_held (rows_at (drop 97 t) (i + 1) 1) =
-    held-turn (drop 97 t) n i refl h refl
+    held-turn (drop 97 t) i refl refl
     in
     omega (arith, o, sum)
 

@@ -11,7 +11,7 @@ use Rattle.rules.specs.Walk.{longest}
 use Rattle.store_rows.specs.Rows.{row_of}
 use Rattle.store_rows.specs.Changed.{written}
 use Rattle.store_greeting.specs.declared.marks.Tally.{Tally}
-use Rattle.store_greeting.specs.declared.marks.Tally.TheVariants.{Counted}
+use Rattle.std.proofs.Common.{Option, Some}
 use Rattle.store_greeting.specs.Marks.{note_of, most_marks, mark_cells}
 use Rattle.store_greeting.specs.Taking.{Takes}
 use Rattle.store_greeting.proofs.Marked.{length-cells}
@@ -24,10 +24,10 @@ use Rattle.store_notes.specs.Changed.{opened, Heard, Taken}
 use Rattle.store_notes.proofs.Opening.{opened-is}
 use Rattle.store_notes.proofs.Noting.{cells-marks, marks-back}
 
-pub taken : {law samples m : ℕ} {xs cells cells' : List ℕ} {r : Tally} → Takes law xs cells cells' r → r ≡ Counted samples m → law ≤ most_law
-    → length xs ≤ longest → length cells' ≡ length cells → Taken (record { law = law; samples = samples; marks = m }) xs cells'
-taken {law} {samples} {m} {xs} {cells} {cells'} t e l g same =
-    let k = subst (λ (a : Tally). Takes law xs cells cells' a) e t in
+pub taken : {law : ℕ} {xs cells cells' : List ℕ} {r : Option Tally} {a : Tally} → Takes law xs cells cells' r → r ≡ Some a → law ≤ most_law
+    → length xs ≤ longest → length cells' ≡ length cells → Taken (record { law = law; samples = a.samples; marks = a.marks }) xs cells'
+taken {law} {xs} {cells} {cells'} t e l g same =
+    let k = subst (λ (o : Option Tally). Takes law xs cells cells' o) e t in
     let told = taken-told law xs k in
     let ms = (note_of law xs).marks in
     let rest = drop (2 * length ms) cells in
@@ -48,7 +48,7 @@ module _ {head : Head} {xs : List ℕ} (h : Heard head xs) where
   pub heard-row : {w : ℕ} → w ≡ head.law → row_of w head.samples head.marks ≡ head_row (note_of head.law xs)
   heard-row e = rw (e, h.samples-are, h.count)
 
-  pub walked-is : (cells : List ℕ) (at used by : ℕ) {c₁ c₂ ys : List ℕ} {r : Tally} → at ≤ used → used + by ≤ length cells → by ≡ 2 * head.marks
+  pub walked-is : (cells : List ℕ) (at used by : ℕ) {c₁ c₂ ys : List ℕ} {r : Option Tally} → at ≤ used → used + by ≤ length cells → by ≡ 2 * head.marks
       → length c₁ ≡ length cells → c₁ ≡ paste cells (at + by) (drop at cells) (used - at)
       → Takes head.law xs (take (at + by - at) (drop at c₁)) ys r
       → c₂ ≡ take at c₁ ++ (ys ++ drop (at + by - at) (drop at c₁)) → c₂ ≡ opened cells at used (mark_cells (note_of head.law xs).marks)

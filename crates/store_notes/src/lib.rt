@@ -5,7 +5,6 @@
 ghost use Rattle.std.specs.Prelude.{◌≡◌, ◌+◌, ◌*◌, ◌^◌, ◌≤◌, ◌<◌, length, get_or, drop};
 ghost use Rattle.store_rows.specs.Limits.{most_greetings};
 ghost use Rattle.store_rows.specs.Cells.{rows_at};
-ghost use Rattle.store_rows.specs.Changed.{written};
 ghost use Rattle.store_greeting.specs.Marks.{note_of, mark_cells};
 ghost use Rattle.store_notes.specs.Cells.{second_list, first_mark, heads_of, head_at, marks_held};
 ghost use Rattle.store_notes.specs.Sane.{store_cells, matched, sane_store};
@@ -53,17 +52,12 @@ fn fits(table: &[u32], n: usize) -> bool
     requires { (n ≤ most_greetings) × (first_mark ≤ length table.now) }
     ensures { result ≡ matched (rows_at table.now n 1) (rows_at (drop second_list table.now) n 1) }
 {
-    let mut i = 0;
-    while i < n {
-        let r = store_rows::rows::row_at(table, 1 + store_rows::rows::ROW_CELLS * i);
+    for (i, r) in store_rows::rows::greetings(table, n).enumerate() {
         let h = head_at(table, i);
-        if rules::MOST_LAW < h.law {
+        let most = r.octets / store_greeting::marks::FRAMES_APART + 1;
+        if rules::MOST_LAW < h.law || most < h.marks {
             return false;
         }
-        if r.octets / store_greeting::marks::FRAMES_APART + 1 < h.marks {
-            return false;
-        }
-        i += 1;
     }
     true
 }
@@ -72,42 +66,20 @@ fn fits(table: &[u32], n: usize) -> bool
 pub fn sane(table: &[u32], size: usize) -> bool
     ensures { result ≡ sane_store size table.now }
 {
-    if table.len() < store_cells(size) {
+    if table.len() < store_cells(size) || !store_rows::rows::sane(table, size) {
         return false;
     }
-    if !store_rows::rows::sane(table, size) {
-        return false;
-    }
-    let n = store_rows::rows::wide(table[0]);
-    if store_rows::rows::wide(table[SECOND_LIST]) == n {
-        return fits(table, n);
-    }
-    false
+    table[SECOND_LIST] == table[0] && fits(table, table[0] as usize)
 }
 
-// How many marks the first i greetings have.
+// How many marks the first i greetings have: they stand third in their rows, as octets do.
 pub fn marks_before(table: &[u32], i: usize) -> usize
     requires { (i ≤ most_greetings) × (first_mark ≤ length table.now) }
     ensures { (result ≡ marks_held (rows_at (drop second_list table.now) i 1)) × (result ≤ i * 2 ^ 32) }
 {
-    let mut sum = 0;
-    let mut j = 0;
-    while j < i {
-        let h = head_at(table, j);
-        sum += h.marks;
-        j += 1;
-    }
-    sum
-}
-
-// Cells written from a place on.
-fn lay(cells: &mut [u32], at: usize, new: &[u32])
-    requires { at + length new.now ≤ length cells.old }
-    ensures { cells.new ≡ written cells.old at new.now }
-{
-    for i in 0..new.len() {
-        cells[at + i] = new[i];
-    }
+    store_rows::rows::greetings(&table[SECOND_LIST..], i)
+        .map(|h| h.octets)
+        .sum()
 }
 
 // Cells put in at a place.
@@ -115,8 +87,8 @@ fn open_up(cells: &mut [u32], at: usize, used: usize, new: &[u32])
     requires { (at ≤ used) × (used + length new.now ≤ length cells.old) }
     ensures { cells.new ≡ opened cells.old at used new.now }
 {
-    store_rows::placing::raise(cells, at, used, new.len());
-    lay(cells, at, new);
+    cells.copy_within(at..used, at + new.len());
+    cells[at..at + new.len()].copy_from_slice(new);
 }
 
 // Cells taken out from a place on.
@@ -124,7 +96,7 @@ fn shut_over(cells: &mut [u32], at: usize, used: usize, by: usize)
     requires { (at + by ≤ used) × (used ≤ length cells.old) }
     ensures { cells.new ≡ shut cells.old at used by }
 {
-    store_rows::placing::lower(cells, at, by, used - (at + by));
+    cells.copy_within(at + by..used, at);
 }
 
 // Cells put in for a greeting's marks, which are taken as its walk goes.
@@ -134,9 +106,8 @@ fn open_walked(cells: &mut [u32], at: usize, used: usize, octets: &[u8], head: H
         ≡ opened cells.old at used (mark_cells (note_of head.law octets.now).marks) }
 {
     let by = 2 * head.marks;
-    store_rows::placing::raise(cells, at, used, by);
-    let end = at + by;
-    store_greeting::marks::take(octets, head.law, &mut cells[at..end]);
+    cells.copy_within(at..used, at + by);
+    store_greeting::marks::take(octets, head.law, &mut cells[at..at + by]);
 }
 
 // Cells put in for a greeting's marks: those that were taken, where they had room; else it is walked once more.
@@ -148,9 +119,9 @@ fn open_taken(cells: &mut [u32], at: usize, used: usize, octets: &[u8], head: He
     let by = 2 * head.marks;
     if by <= marks.len() {
         open_up(cells, at, used, &marks[..by]);
-        return;
+    } else {
+        open_walked(cells, at, used, octets, head);
     }
-    open_walked(cells, at, used, octets, head);
 }
 
 // The note of a greeting put in, i notes standing before it: what was taken of its walk.
@@ -165,7 +136,7 @@ pub fn put_taken(table: &mut [u32], n: usize, i: usize, head: Head, octets: &[u8
         n,
         i,
         Row {
-            number: store_rows::rows::wide(head.law),
+            number: head.law as usize,
             start: head.samples,
             octets: head.marks,
         },

@@ -7,8 +7,8 @@ use mathlib.Core.Bool.{Bool, true, false, cond, not, ◌||◌}
 use native.Mathlib.Omega.{arith}
 use lib.ListN.{length}
 use lib.Dec.{eqb, ltb}
-use Rattle.rules.specs.declared.Ending.{Ending}
-use Rattle.rules.specs.declared.Ending.TheVariants.{Done, Refused}
+use Rattle.rules.specs.Refusals.{Ending}
+use Rattle.std.proofs.Common.{Ok, Err}
 use Rattle.rules.specs.declared.Refusal.TheVariants.{Tool}
 use Rattle.rules.specs.Tools.{is_tool, slot_of, holds, Within, all_tools, is_set}
 use Rattle.rules.specs.Walk.{Walked}
@@ -40,9 +40,9 @@ within_all set = record {
 }
 
 -- a test that is passed by no refusal
-done-only : (e : Ending) (t : ℕ) {A : Type 0} → not (is_done e) ≡ false → e ≡ Refused (Tool t) → A
-done-only Done t h e = let z : ◌≡◌ {A = ℕ} 0 1 = cc in absurd (omega arith)
-done-only (Refused w) t h e = let z : ◌≡◌ {A = ℕ} 0 1 = cc in absurd (omega arith)
+done-only : (e : Ending) (t : ℕ) {A : Type 0} → not (is_done e) ≡ false → e ≡ Err (Tool t) → A
+done-only (Ok _) t h e = let z : ◌≡◌ {A = ℕ} 0 1 = cc in absurd (omega arith)
+done-only (Err w) t h e = let z : ◌≡◌ {A = ℕ} 0 1 = cc in absurd (omega arith)
 
 module _ (set : ℕ) (s : is_set set ≡ true) where
   module _ (law : ℕ) (xs : List ℕ) (e : bad_with set law xs ≡ false) where

@@ -10,8 +10,7 @@ use lib.ListN.{length, take, drop}
 use lib.Dec.{ltb}
 use borrow.Author.Tests.{ltb-false, ltb-true}
 use Rattle.store_rows.specs.declared.rows.Row.{Row}
-use Rattle.store_rows.specs.declared.rows.Gap.{Gap}
-use Rattle.store_rows.specs.declared.rows.Gap.TheVariants.{At, Nowhere}
+use Rattle.std.specs.Prelude.{Option, Some, None}
 use Rattle.store_rows.specs.Rows.{row_of, Kept, contents}
 use Rattle.store_rows.specs.Finding.{gap_from, lowest_gap}
 use Rattle.store_rows.specs.Sane.{rising}
@@ -46,21 +45,30 @@ split-later {want} {size} {lo} {i} {r} {rows} {j} {s} n p =
       above = p.above;
     }
 
-gap-cases : (want size lo i : ℕ) (rows : List Row) {j s : ℕ} {more : Gap} (k : ℕ) (b : Bool) → ltb k (lo + want) ≡ b
+-- the two numbers of a gap
+abbrev index_of : Option (ℕ × ℕ) → ℕ
+index_of (Some (i, at)) = i
+index_of None = 0
+
+abbrev place_of : Option (ℕ × ℕ) → ℕ
+place_of (Some (i, at)) = at
+place_of None = 0
+
+gap-cases : (want size lo i : ℕ) (rows : List Row) {j s : ℕ} {more : Option (ℕ × ℕ)} (k : ℕ) (b : Bool) → ltb k (lo + want) ≡ b
     → (lo + want ≤ k → (lo + want ≤ size) × (rising 1 (lo + want) size rows ≡ true))
-    → (At j s ≡ more → Split want size lo i rows j s) → At j s ≡ cond b more (At i lo) → Split want size lo i rows j s
+    → (Some (j, s) ≡ more → Split want size lo i rows j s) → Some (j, s) ≡ cond b more (Some (i, lo)) → Split want size lo i rows j s
 gap-cases want size lo i rows k true t g f e = f e
 gap-cases want size lo i rows {j} {s} k false t g f e =
-    let a : j ≡ i = cc in
-    let b : s ≡ lo = cc in
+    let a : j ≡ i = ap index_of e in
+    let b : s ≡ lo = ap place_of e in
     let q = g (ltb-false k (lo + want) t) in
     split-here a b q.0 q.1
 
-no-split : {want size lo i : ℕ} {rows : List Row} {j s : ℕ} → At j s ≡ Nowhere → Split want size lo i rows j s
+no-split : {want size lo i : ℕ} {rows : List Row} {j s : ℕ} → ◌≡◌ {A = Option (ℕ × ℕ)} (Some (j, s)) None → Split want size lo i rows j s
 no-split e = let z : ◌≡◌ {A = ℕ} 0 1 = cc in absurd (omega arith)
 
 pub gap-split : (want size lo i : ℕ) (rows : List Row) {j s : ℕ} → lo ≤ size → rising 1 lo size rows ≡ true
-    → At j s ≡ gap_from want size lo i rows → Split want size lo i rows j s
+    → Some (j, s) ≡ gap_from want size lo i rows → Split want size lo i rows j s
 unfolding gap_from
 gap-split want size lo i [] g h e =
     gap-cases want size lo i [] size (ltb size (lo + want)) refl (λ q. (q, rising-nil 1 (lo + want) size)) no-split e
@@ -78,7 +86,7 @@ gap-split want size lo i (r ∷ rows) g h e =
 -- put in a gap: the new greeting reads as given, every other as before; the rows still rise
 module _ (b xs : List ℕ) (size x : ℕ) (rows : List Row) (j s : ℕ) (f : size ≤ length b) (o : 1 ≤ length xs)
     (h : rising 1 0 size rows ≡ true)
-    (e : At j s ≡ lowest_gap (length xs) size rows) where
+    (e : Some (j, s) ≡ lowest_gap (length xs) size rows) where
   gap : Split (length xs) size 0 0 rows j s
   gap = gap-split (length xs) size 0 0 rows (omega arith) h e
 
@@ -109,12 +117,12 @@ module _ (b xs : List ℕ) (size x : ℕ) (rows : List Row) (j s : ℕ) (f : siz
       ))
 
 -- no lower place is clear; where no gap is found, none is
-abbrev pub Bounds : ℕ → ℕ → ℕ → Gap → Type 0
-Bounds p want size (At j s) = s ≤ p
-Bounds p want size Nowhere = size < p + want
+abbrev pub Bounds : ℕ → ℕ → ℕ → Option (ℕ × ℕ) → Type 0
+Bounds p want size (Some (j, s)) = s ≤ p
+Bounds p want size None = size < p + want
 
-bounds-cases : (p want size lo i : ℕ) (more : Gap) (b : Bool) → lo ≤ p → (b ≡ true → Bounds p want size more)
-    → Bounds p want size (cond b more (At i lo))
+bounds-cases : (p want size lo i : ℕ) (more : Option (ℕ × ℕ)) (b : Bool) → lo ≤ p → (b ≡ true → Bounds p want size more)
+    → Bounds p want size (cond b more (Some (i, lo)))
 bounds-cases p want size lo i more true l f = f refl
 bounds-cases p want size lo i more false l f = l
 
@@ -122,7 +130,7 @@ pub gap-lowest : (p want size lo i : ℕ) (rows : List Row) → 1 ≤ want → l
     → p + want ≤ size → Bounds p want size (gap_from want size lo i rows)
 unfolding gap_from Clear
 gap-lowest p want size lo i [] w l h c q =
-    bounds-cases p want size lo i Nowhere (ltb size (lo + want)) l (λ t. let z = ltb-true size (lo + want) t in absurd (omega arith))
+    bounds-cases p want size lo i None (ltb size (lo + want)) l (λ t. let z = ltb-true size (lo + want) t in absurd (omega arith))
 gap-lowest p want size lo i (r ∷ rows) w l h c q =
     let n = rising-head 1 lo size r rows h in
     let m = n.0 in

@@ -14,8 +14,7 @@ use borrow.Author.Tests.{ltb-false, leb-false, leb-true}
 use Rattle.rules.specs.Tools.{is_law, most_law}
 use Rattle.rules.proofs.Tests.{and_left, and_right}
 use Rattle.store_rows.specs.declared.rows.Row.{Row}
-use Rattle.store_rows.specs.declared.rows.Gap.{Gap}
-use Rattle.store_rows.specs.declared.rows.Gap.TheVariants.{At, Nowhere}
+use Rattle.std.specs.Prelude.{Option, Some, None}
 use Rattle.store_rows.specs.Limits.{most_number, size_of, is_number}
 use Rattle.store_rows.specs.Rows.{row_of, held, contents}
 use Rattle.store_rows.specs.Finding.{absent, find_from, lowest_gap}
@@ -203,12 +202,12 @@ module _ (b t : List ℕ) (law x : ℕ) (xs : List ℕ) {a : After} (e : put_of 
   pub put-fresh : Fresh x (rows_of t)
   put-fresh = fresh-of x (rows_of t) granted.fresh
 
-  abbrev after : Gap → After
+  abbrev after : Option (ℕ × ℕ) → After
   after p = put_at b (rows_of t) (notes_of t) law x xs p
 
-  sane-in : (p : Gap) → p ≡ lowest_gap (length xs) (size_of b) (rows_of t)
+  sane-in : (p : Option (ℕ × ℕ)) → p ≡ lowest_gap (length xs) (size_of b) (rows_of t)
       → sane_store (size_of b) (stored (after p).rows (after p).notes t) ≡ true
-  sane-in (At i s) q =
+  sane-in (Some (i, s)) q =
       let rows = rows_of t in
       let new = row_of x s (length xs) in
       let n = granted.number in
@@ -218,7 +217,7 @@ module _ (b t : List ℕ) (law x : ℕ) (xs : List ℕ) {a : After} (e : put_of 
       (inserted-distinct i new rows (low-number x n) (high-number x n) put-fresh distinct)
       (inserted_same i new rows (note_of law xs) (notes_of t) same)
       (matched-inserted i rows (notes_of t) same (sane-matched (size_of b) t granted.sane) new (note_of law xs) (fits s))
-  sane-in Nowhere q =
+  sane-in None q =
       let rows = rows_of t in
       let new = row_of x (held rows) (length xs) in
       let n = granted.number in
@@ -238,11 +237,11 @@ module _ (b t : List ℕ) (law x : ℕ) (xs : List ℕ) {a : After} (e : put_of 
   pub put-sane : sane_store (size_of b) (stored a.rows a.notes t) ≡ true
   put-sane = rw granted.is (sane-in (lowest_gap (length xs) (size_of b) (rows_of t)) refl)
 
-  few-in : (p : Gap) → (length (after p).rows ≤ 32) × (length (after p).notes ≡ length (after p).rows)
-  few-in (At i s) =
+  few-in : (p : Option (ℕ × ℕ)) → (length (after p).rows ≤ 32) × (length (after p).notes ≡ length (after p).rows)
+  few-in (Some (i, s)) =
       let new = row_of x s (length xs) in
       (omega (arith, length_inserted i new (rows_of t), granted.few), inserted_same i new (rows_of t) (note_of law xs) (notes_of t) same)
-  few-in Nowhere =
+  few-in None =
       let rows = rows_of t in
       let new = row_of x (held rows) (length xs) in
       let l = length-closed 0 rows in (
@@ -256,29 +255,29 @@ module _ (b t : List ℕ) (law x : ℕ) (xs : List ℕ) {a : After} (e : put_of 
       let q = few-in p in
       rw granted.is (stored_back b (after p).rows (after p).notes t cells q.0 q.1)
 
-  length-in : (p : Gap) → p ≡ lowest_gap (length xs) (size_of b) (rows_of t) → length (after p).block ≡ length b
-  length-in (At i s) q =
+  length-in : (p : Option (ℕ × ℕ)) → p ≡ lowest_gap (length xs) (size_of b) (rows_of t) → length (after p).block ≡ length b
+  length-in (Some (i, s)) q =
       length-written b s xs (omega (arith, gap-inside b xs (size_of b) x (rows_of t) i s (omega arith) some ordered.rises q))
-  length-in Nowhere q =
+  length-in None q =
       let c = closed-length b (rows_of t) (size_of b) ordered.rises (omega arith) in
       length-written (closed_block b (rows_of t)) (held (rows_of t)) xs (omega (arith, c, granted.room)) ∙ c
 
   pub put-length : length a.block ≡ length b
   put-length = rw granted.is (length-in (lowest_gap (length xs) (size_of b) (rows_of t)) refl)
 
-  held_in : (p : Gap) → held (after p).rows ≡ held (rows_of t) + length xs
-  held_in (At i s) = held-inserted i (row_of x s (length xs)) (rows_of t)
-  held_in Nowhere =
+  held_in : (p : Option (ℕ × ℕ)) → held (after p).rows ≡ held (rows_of t) + length xs
+  held_in (Some (i, s)) = held-inserted i (row_of x s (length xs)) (rows_of t)
+  held_in None =
       held-inserted (length (rows_of t)) (row_of x (held (rows_of t)) (length xs)) (closed_rows 0 (rows_of t))
       ∙ ap (λ (y : ℕ). y + length xs) (held-closed 0 (rows_of t))
 
   pub put-held : held a.rows ≡ held (rows_of t) + length xs
   put-held = rw granted.is (held_in (lowest_gap (length xs) (size_of b) (rows_of t)))
 
-  reads_in : (p : Gap) → p ≡ lowest_gap (length xs) (size_of b) (rows_of t) → ReadsNew b t law x xs (after p)
-  reads_in (At i s) q =
+  reads_in : (p : Option (ℕ × ℕ)) → p ≡ lowest_gap (length xs) (size_of b) (rows_of t) → ReadsNew b t law x xs (after p)
+  reads_in (Some (i, s)) q =
       record { place = i; is = gap-reads b xs (size_of b) x (rows_of t) i s (omega arith) some ordered.rises q; notes = refl }
-  reads_in Nowhere q =
+  reads_in None q =
       let rows = rows_of t in
       let done = closed_rows 0 rows in
       let n = length rows in

@@ -17,8 +17,9 @@ use Rattle.store_greeting.specs.Marks.{Note, note_of}
 use Rattle.store_notes.specs.Sane.{store_cells}
 use Rattle.store_jump.specs.declared.jumping.Refusal.{Refusal}
 use Rattle.store_jump.specs.declared.jumping.Refusal.TheVariants.{Number, Absent, Bad, Beyond, Table}
-use Rattle.store_jump.specs.declared.jumping.Answer.{Answer}
-use Rattle.store_jump.specs.declared.jumping.Answer.TheVariants.{Done, Refused}
+use Rattle.store_jump.specs.declared.jumping.Told.{Told}
+use Rattle.store_jump.specs.Jump.{Answer}
+use Rattle.std.specs.Prelude.{Ok, Err}
 use Rattle.store_jump.specs.Jump.{jump_in, jump_among}
 use Rattle.store_jump.specs.Whole.{Named}
 use Rattle.store_jump.proofs.Whole.{jump-named}
@@ -28,17 +29,17 @@ use Rattle.store_promises.proofs.Promises.{Keeps, all-kept, here-same}
 use Rattle.store_promises.specs.Jumped.{There, samples_in, jump_into, Jumped, unnumbered, unheld, beyond, within}
 use Rattle.store_promises.proofs.Pairs.{Stands, stands}
 
-beyond-in : (xs : List ℕ) (n : Note) (sample : ℕ) → n.samples ≤ sample → jump_in xs n sample ≡ Refused Beyond
+beyond-in : (xs : List ℕ) (n : Note) (sample : ℕ) → n.samples ≤ sample → jump_in xs n sample ≡ Err Beyond
 unfolding jump_in
 beyond-in xs n sample h = rw (le-leb n.samples sample h)
 
 module _ {size : ℕ} {s : Store} (k : Keeps size s) (x sample : ℕ) where
-  pub jump-number : is_number x ≡ false → jump_into s x sample ≡ Refused Number
+  pub jump-number : is_number x ≡ false → jump_into s x sample ≡ Err Number
   unfolding jump_among
   jump-number n = rw (k.sane, n)
 
   module _ (n : is_number x ≡ true) where
-    pub jump-absent : absent x (rows_in s) ≡ true → jump_into s x sample ≡ Refused Absent
+    pub jump-absent : absent x (rows_in s) ≡ true → jump_into s x sample ≡ Err Absent
     unfolding jump_among
     jump-absent a = rw (k.sane, n, a)
 
@@ -85,7 +86,7 @@ there-one g h =
     (ap (λ (n : Note). n.law) (same-note (sym g.knows ∙ h.knows)), here-same (sym g.reads ∙ h.reads))
 
 -- no other answer
-not_done : {w : Refusal} {a b c d : ℕ} {A : Type 0} → Done a b c d ≡ Refused w → A
+not_done : {w : Refusal} {t : Told} {A : Type 0} → Ok t ≡ Err w → A
 not_done e = let z : ◌≡◌ {A = ℕ} 0 1 = cc in absurd (omega arith)
 
 pub record Over (s : Store) (x sample : ℕ) : Type 0 where
@@ -93,19 +94,19 @@ pub record Over (s : Store) (x sample : ℕ) : Type 0 where
   pub over : samples_in there ≤ sample
 
 module _ {s : Store} {x sample : ℕ} where
-  pub beyond-only : {r : Answer} → Jumped s x sample r → r ≡ Refused Beyond → Over s x sample
+  pub beyond-only : {r : Answer} → Jumped s x sample r → r ≡ Err Beyond → Over s x sample
   beyond-only (unnumbered n) e = let z : ◌≡◌ {A = ℕ} 0 1 = cc in absurd (omega arith)
   beyond-only (unheld n a) e = let z : ◌≡◌ {A = ℕ} 0 1 = cc in absurd (omega arith)
   beyond-only (beyond n g h) e = record { there = g; over = h }
   beyond-only (within n g h w) e = not_done (sym w.answer ∙ e)
 
-  pub never-table : {r : Answer} → Jumped s x sample r → r ≡ Refused Table → ⊥
+  pub never-table : {r : Answer} → Jumped s x sample r → r ≡ Err Table → ⊥
   never-table (unnumbered n) e = let z : ◌≡◌ {A = ℕ} 0 1 = cc in absurd (omega arith)
   never-table (unheld n a) e = let z : ◌≡◌ {A = ℕ} 0 1 = cc in absurd (omega arith)
   never-table (beyond n g h) e = let z : ◌≡◌ {A = ℕ} 0 1 = cc in absurd (omega arith)
   never-table (within n g h w) e = not_done (sym w.answer ∙ e)
 
-  pub never-bad : {r : Answer} → Jumped s x sample r → r ≡ Refused Bad → ⊥
+  pub never-bad : {r : Answer} → Jumped s x sample r → r ≡ Err Bad → ⊥
   never-bad (unnumbered n) e = let z : ◌≡◌ {A = ℕ} 0 1 = cc in absurd (omega arith)
   never-bad (unheld n a) e = let z : ◌≡◌ {A = ℕ} 0 1 = cc in absurd (omega arith)
   never-bad (beyond n g h) e = let z : ◌≡◌ {A = ℕ} 0 1 = cc in absurd (omega arith)

@@ -6,7 +6,7 @@ use mathlib.Core.List.{List, [], ◌∷◌}
 use mathlib.Core.Bool.{true, cond, not}
 use lib.ListN.{length}
 use lib.Dec.{ltb}
-use Rattle.rules.specs.declared.Ending.{Ending}
+use Rattle.rules.specs.Refusals.{Ending}
 use Rattle.rules.specs.Walk.{Delivered}
 use Rattle.promises.proofs.Laws.{AllAlike, walks-alike, samples-alike}
 use Rattle.store_greeting.specs.Bad.{is_done, store_set, never_short, walk_of, is_bad}

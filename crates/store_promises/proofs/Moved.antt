@@ -8,8 +8,7 @@ use lib.Seq.{append_snoc}
 use lib.Dec.{eqb}
 use borrow.Author.Tests.{eq-eqb, ne_eqb}
 use Rattle.store_rows.specs.declared.rows.Row.{Row}
-use Rattle.store_rows.specs.declared.rows.Gap.{Gap}
-use Rattle.store_rows.specs.declared.rows.Gap.TheVariants.{At, Nowhere}
+use Rattle.std.specs.Prelude.{Option, Some, None}
 use Rattle.store_rows.specs.Limits.{size_of}
 use Rattle.store_rows.specs.Rows.{row_of, held}
 use Rattle.store_rows.specs.Finding.{lowest_gap}
@@ -85,15 +84,15 @@ module _ (b t : List ℕ) (law x : ℕ) (xs : List ℕ) {a : After} (e : put_of 
   distinct : Distinct (rows_of t)
   distinct = sane-distinct (size_of b) t (put-granted b t law x xs a e).sane
 
-  moved_in : (g : Gap) → (put_at b (rows_of t) (notes_of t) law x xs g).second ≡ changed (rows_of t)
+  moved_in : (g : Option (ℕ × ℕ)) → (put_at b (rows_of t) (notes_of t) law x xs g).second ≡ changed (rows_of t)
       (put_at b (rows_of t) (notes_of t) law x xs g).rows
-  moved_in (At i s) =
+  moved_in (Some (i, s)) =
       let rows = rows_of t in
       let new = row_of x s (length xs) in
       let k = take-append-drop i rows in
       sym (changed-none x (insert_at i new rows) [] rows distinct (put-fresh b t law x xs e)
       (λ y n. start-past y (take i rows) new (drop i rows) n ∙ ap (start_of y) k))
-  moved_in Nowhere =
+  moved_in None =
       let rows = rows_of t in
       let new = row_of x (held rows) (length xs) in
       let o = sane-rows (size_of b) t (put-granted b t law x xs a e).sane in

@@ -8,8 +8,7 @@ use native.Mathlib.Omega.{arith}
 use native.Mathlib.Decide.{ℕ_discrete}
 use lib.ListN.{length, take, drop, length-take, take-append-drop}
 use Rattle.store_rows.specs.declared.rows.Row.{Row}
-use Rattle.store_rows.specs.declared.rows.Gap.{Gap}
-use Rattle.store_rows.specs.declared.rows.Gap.TheVariants.{At, Nowhere}
+use Rattle.std.specs.Prelude.{Option, Some, None}
 use Rattle.store_rows.specs.Limits.{size_of}
 use Rattle.store_rows.specs.Rows.{row_of, held}
 use Rattle.store_rows.specs.Finding.{lowest_gap}
@@ -51,22 +50,22 @@ module _ (b t : List ℕ) (law x : ℕ) (xs : List ℕ) {a : After} (e : put_of 
   same : length (notes_of t) ≡ length (rows_of t)
   same = sane-count b t (put-granted b t law x xs a e).sane
 
-  abbrev after : Gap → After
+  abbrev after : Option (ℕ × ℕ) → After
   after p = put_at b (rows_of t) (notes_of t) law x xs p
 
   closed_same : length (notes_of t) ≡ length (closed_rows 0 (rows_of t))
   closed_same = same ∙ sym (length-closed 0 (rows_of t))
 
-  new_in : (p : Gap) → note_under x (after p).rows (after p).notes ≡ noted (note_of law xs)
-  new_in (At i s) = among-new x i (rows_of t) (notes_of t) (row_of x s (length xs)) (note_of law xs) refl same (put-fresh b t law x xs e)
-  new_in Nowhere =
+  new_in : (p : Option (ℕ × ℕ)) → note_under x (after p).rows (after p).notes ≡ noted (note_of law xs)
+  new_in (Some (i, s)) = among-new x i (rows_of t) (notes_of t) (row_of x s (length xs)) (note_of law xs) refl same (put-fresh b t law x xs e)
+  new_in None =
       let rows = rows_of t in
       among-new x (length rows) (closed_rows 0 rows) (notes_of t) (row_of x (held rows) (length xs)) (note_of law xs) refl closed_same
       (fresh-closed x 0 rows (put-fresh b t law x xs e))
 
-  others-in : (p : Gap) (y : ℕ) → (x ≡ y → ⊥) → note_under y (after p).rows (after p).notes ≡ note_under y (rows_of t) (notes_of t)
-  others-in (At i s) y d = among-others x i (rows_of t) (notes_of t) (row_of x s (length xs)) (note_of law xs) refl same y d
-  others-in Nowhere y d =
+  others-in : (p : Option (ℕ × ℕ)) (y : ℕ) → (x ≡ y → ⊥) → note_under y (after p).rows (after p).notes ≡ note_under y (rows_of t) (notes_of t)
+  others-in (Some (i, s)) y d = among-others x i (rows_of t) (notes_of t) (row_of x s (length xs)) (note_of law xs) refl same y d
+  others-in None y d =
       let rows = rows_of t in
       among-others x (length rows) (closed_rows 0 rows) (notes_of t) (row_of x (held rows) (length xs)) (note_of law xs) refl closed_same y d
       ∙ under-closed y 0 rows (notes_of t)

@@ -6,8 +6,7 @@ use mathlib.Core.List.{List, [], ◌∷◌, ◌++◌}
 use native.Mathlib.Omega.{arith}
 use lib.ListN.{length}
 use Rattle.store_rows.specs.declared.rows.Row.{Row}
-use Rattle.store_rows.specs.declared.rows.Gap.{Gap}
-use Rattle.store_rows.specs.declared.rows.Gap.TheVariants.{At, Nowhere}
+use Rattle.std.specs.Prelude.{Option, Some, None}
 use Rattle.store_rows.specs.Limits.{size_of}
 use Rattle.store_rows.specs.Rows.{row_of, held}
 use Rattle.store_rows.specs.Finding.{lowest_gap}
@@ -52,10 +51,10 @@ put-placed b t law x xs a e = go (lowest_gap (length xs) (size_of b) (rows_of t)
     low : Lowest (length xs) (size_of b) (rows_of t) (lowest_gap (length xs) (size_of b) (rows_of t))
     low = put_lowest b t law x xs a e
 
-    go : (g : Gap) → ((i at : ℕ) → g ≡ At i at → Clear at (length xs) (rows_of t) × (at + length xs ≤ size_of b))
+    go : (g : Option (ℕ × ℕ)) → ((i at : ℕ) → g ≡ Some (i, at) → Clear at (length xs) (rows_of t) × (at + length xs ≤ size_of b))
         → ((p : ℕ) → Clear p (length xs) (rows_of t) → p + length xs ≤ size_of b → Bounds p (length xs) (size_of b) g)
         → a ≡ put_at b (rows_of t) (notes_of t) law x xs g → Placed b (size_of b) (rows_of t) x xs a
-    go (At i at) c l m =
+    go (Some (i, at)) c l m =
         let inside = (c i at refl).1 in
         rw m (in-gap (record {
           clear = (c i at refl).0;
@@ -66,7 +65,7 @@ put-placed b t law x xs a e = go (lowest_gap (length xs) (size_of b) (rows_of t)
           among = refl;
           moved = refl;
         }))
-    go Nowhere c l m =
+    go None c l m =
         let k = put-granted b t law x xs a e in
         let rows = rows_of t in
         rw m (behind (record {

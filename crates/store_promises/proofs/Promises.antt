@@ -22,8 +22,7 @@ use Rattle.rules.specs.Judged.{judged}
 use Rattle.rules.specs.Tools.{is_law}
 use Rattle.rules.specs.Walk.{walk_all}
 use Rattle.store_rows.specs.declared.rows.Row.{Row}
-use Rattle.store_rows.specs.declared.rows.Gap.{Gap}
-use Rattle.store_rows.specs.declared.rows.Gap.TheVariants.{At}
+use Rattle.std.specs.Prelude.{Option, Some}
 use Rattle.store_rows.specs.Limits.{size_of, is_number}
 use Rattle.store_rows.specs.Rows.{held, greeting, Kept, contents}
 use Rattle.store_rows.specs.Finding.{absent, find_from, lowest_gap}
@@ -228,8 +227,8 @@ noroom-only b t law x xs e =
     )
 
 -- THE LOWEST GAP: where one is found it is clear, and no lower place is; where none is found no place is clear
-pub record Lowest (want size : ℕ) (rows : List Row) (g : Gap) : Type 0 where
-  pub clear : (i at : ℕ) → g ≡ At i at → Clear at want rows × (at + want ≤ size)
+pub record Lowest (want size : ℕ) (rows : List Row) (g : Option (ℕ × ℕ)) : Type 0 where
+  pub clear : (i at : ℕ) → g ≡ Some (i, at) → Clear at want rows × (at + want ≤ size)
   pub least : (p : ℕ) → Clear p want rows → p + want ≤ size → Bounds p want size g
 
 pub put_lowest : (b t : List ℕ) (law x : ℕ) (xs : List ℕ) (a : After) → put_of b t law x xs ≡ leaves a

@@ -9,8 +9,7 @@ use native.Mathlib.Decide.{ℕ_discrete, dec_lt}
 use lib.ListN.{length, take, drop, get_or, get_or-append}
 use lib.Seq.{get_or-append-add, get_or-drop, get_or-take, length-take-le}
 use Rattle.store_rows.specs.declared.rows.Row.{Row}
-use Rattle.store_rows.specs.declared.rows.Gap.{Gap}
-use Rattle.store_rows.specs.declared.rows.Gap.TheVariants.{At, Nowhere}
+use Rattle.std.specs.Prelude.{Option, Some, None}
 use Rattle.store_rows.specs.Limits.{size_of}
 use Rattle.store_rows.specs.Rows.{held, greeting}
 use Rattle.store_rows.specs.Finding.{lowest_gap}
@@ -90,15 +89,15 @@ writing-spares b xs at p h out = go (dec_lt p at) (dec_lt p (at + length xs))
     go (no n) (no m) = same-get_d p p (written b at xs) b (high_part b xs at h p (omega arith)) (omega arith)
 
 module _ (b t : List ℕ) (law x : ℕ) (xs : List ℕ) {a : After} (e : put_of b t law x xs ≡ leaves a) where
-  stays-in : (g : Gap) → g ≡ lowest_gap (length xs) (size_of b) (rows_of t) → (p : ℕ)
+  stays-in : (g : Option (ℕ × ℕ)) → g ≡ lowest_gap (length xs) (size_of b) (rows_of t) → (p : ℕ)
       → ((put_at b (rows_of t) (notes_of t) law x xs g).first ≤ p → p < (put_at b (rows_of t) (notes_of t) law x xs g).first + length xs → ⊥)
       → Passed p g (rows_of t) → get_or (put_at b (rows_of t) (notes_of t) law x xs g).block p 0 ≡ get_or b p 0
-  stays-in (At i s) q p out k =
+  stays-in (Some (i, s)) q p out k =
       let f = put-granted b t law x xs a e in
       let o = sane-rows (size_of b) t f.sane in
       let n = gap-inside b xs (size_of b) x (rows_of t) i s (omega arith) (good-some law xs f.good) o.rises q in
       writing-spares b xs s p (omega arith) out
-  stays-in Nowhere q p out k =
+  stays-in None q p out k =
       let f = put-granted b t law x xs a e in
       let o = sane-rows (size_of b) t f.sane in
       let c = closed-length b (rows_of t) (size_of b) o.rises (omega arith) in

@@ -7,8 +7,8 @@ use Rattle.store_rows.specs.Finding.{absent}
 use Rattle.store_greeting.specs.Bad.{is_bad}
 use Rattle.store_greeting.specs.Marks.{note_of}
 use Rattle.store_jump.specs.declared.jumping.Refusal.TheVariants.{Number, Absent, Beyond}
-use Rattle.store_jump.specs.declared.jumping.Answer.{Answer}
-use Rattle.store_jump.specs.declared.jumping.Answer.TheVariants.{Refused}
+use Rattle.store_jump.specs.Jump.{Answer}
+use Rattle.std.specs.Prelude.{Err}
 use Rattle.store_jump.specs.Calls.{jump_of}
 use Rattle.store_jump.specs.Whole.{Named}
 use Rattle.store_promises.specs.Told.{Store, rows_in, notes_for}
@@ -32,8 +32,8 @@ jump_into s x sample = jump_of s.block s.table x sample
 
 -- the answers there are, and when
 pub data Jumped (s : Store) (x sample : ℕ) : Answer → Type 0 where
-  unnumbered : is_number x ≡ false → Jumped s x sample (Refused Number)
-  unheld : is_number x ≡ true → absent x (rows_in s) ≡ true → Jumped s x sample (Refused Absent)
-  beyond : is_number x ≡ true → (g : There s x) → samples_in g ≤ sample → Jumped s x sample (Refused Beyond)
+  unnumbered : is_number x ≡ false → Jumped s x sample (Err Number)
+  unheld : is_number x ≡ true → absent x (rows_in s) ≡ true → Jumped s x sample (Err Absent)
+  beyond : is_number x ≡ true → (g : There s x) → samples_in g ≤ sample → Jumped s x sample (Err Beyond)
   within : is_number x ≡ true → (g : There s x) → sample < samples_in g → {r : Answer} → Named g.law g.octets sample r
       → Jumped s x sample r

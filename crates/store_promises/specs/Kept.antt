@@ -2,8 +2,7 @@
 -- places that closing up writes.
 use Rattle.std.specs.Prelude.{ℕ, ◌+◌, ◌≤◌, ◌<◌, ◌≡◌, List, [], ◌∷◌, false, cond, eqb}
 use Rattle.store_rows.specs.declared.rows.Row.{Row}
-use Rattle.store_rows.specs.declared.rows.Gap.{Gap}
-use Rattle.store_rows.specs.declared.rows.Gap.TheVariants.{At, Nowhere}
+use Rattle.std.specs.Prelude.{Option, Some, None}
 use Rattle.store_rows.specs.Rows.{Kept}
 use Rattle.store_greeting.specs.Bad.{is_bad}
 use Rattle.store_greeting.specs.Marks.{Note}
@@ -62,6 +61,6 @@ Spared p at [] = Unit {0}
 Spared p at (r ∷ rows) = ((r.start ≡ at → ⊥) → at ≤ p → p < at + r.octets → ⊥) × Spared p (at + r.octets) rows
 
 -- nor does it where a gap was found
-abbrev pub Passed : ℕ → Gap → List Row → Type 0
-Passed p (At i at) rows = Unit {0}
-Passed p Nowhere rows = Spared p 0 rows
+abbrev pub Passed : ℕ → Option (ℕ × ℕ) → List Row → Type 0
+Passed p (Some (i, at)) rows = Unit {0}
+Passed p None rows = Spared p 0 rows

@@ -6,14 +6,16 @@ use mathlib.Core.Bool.{Bool, true, false, cond}
 use native.Mathlib.Omega.{arith}
 use native.Mathlib.Nat.{zero-add}
 use lib.ListN.{length, take, drop, get_or, set, length-append, length-take, length-drop, length-set}
-use lib.Seq.{paste, length-paste, take_at, drop_at, drop-cons}
+use lib.Seq.{paste, paste-zero, length-paste, take_at, drop_at, drop-cons}
 use lib.Dec.{eqb}
 use Rattle.store_rows.specs.declared.rows.Row.{Row}
 use Rattle.store_rows.specs.Rows.{held, greeting}
 use Rattle.store_rows.specs.Cells.{row_at, rows_at, rows_of, cells_of, laid}
 use Rattle.store_rows.specs.Sane.{Ordered}
 use Rattle.store_rows.specs.Closing.{moved_to, closed_rows, bodies, closed_block, moved_one, moved_from, Closes}
+use Rattle.std.proofs.lemmas.Bool.{eqb-true}
 use Rattle.store_rows.proofs.Lists.{same_drop}
+use Rattle.store_rows.proofs.Shifting.{shift_same}
 use Rattle.store_rows.proofs.Cells.{row_same, rows_snoc, length-rows, held-snoc, cells-snoc, length-cells, drop-three, set-second}
 use Rattle.store_rows.proofs.Rising.{Next, rising-next}
 
@@ -50,6 +52,17 @@ moved-few start to octets = go (eqb start to)
     go : (b : Bool) → cond b 0 octets ≤ octets
     go true = omega arith
     go false = omega arith
+
+-- octets that stay where they are, not moved
+pub settled : {m : ℕ} (b : List ℕ) (start to octets : ℕ) → m ≡ moved_one start to octets → to + octets ≤ length b
+    → paste b to (drop start b) m ≡ paste b to (drop start b) octets
+settled b start to octets e h = ap (λ (x : ℕ). paste b to (drop start b) x) e ∙ go (eqb start to) refl
+  where
+    go : (x : Bool) → eqb start to ≡ x → paste b to (drop start b) (cond x 0 octets) ≡ paste b to (drop start b) octets
+    go true f =
+        let g = eqb-true start to f in
+        rw g (sym (paste-zero b to (drop to b)) ∙ shift_same b to octets h)
+    go false f = refl
 
 -- i rows closed up
 pub record Closing (size : ℕ) (b₀ t₀ : List ℕ) (i : ℕ) (b t : List ℕ) (to m : ℕ) : Type 0 where

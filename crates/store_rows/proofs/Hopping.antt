@@ -1,28 +1,22 @@
--- Many octets moved down at once: through a lent chunk (`hop-all`), and after others (`shift-on`, `shift_rest`).
+-- Octets written over a part of a block (`hop-all`, `all-written`), and many moved down after others (`shift-on`, `shift_rest`).
 use Prim.Native.Nat.{ℕ, ◌+◌, ◌-◌, ◌≤◌}
 use mathlib.Core.Path.{◌≡◌, sym, ap, ◌∙◌}
-use mathlib.Core.List.{List, ◌++◌, append_assoc, append-nil}
+use mathlib.Core.List.{List, ◌++◌, append_assoc}
 use native.Mathlib.Omega.{arith}
-use lib.ListN.{length, take, drop, length-drop, drop_of_length-le}
-use lib.Seq.{paste, take-paste, drop-paste, length-paste, drop-drop, take-add, length-take-le}
+use borrow.Rule.Slice.PartMut.{put_mid}
+use lib.ListN.{length, take, drop, length-drop}
+use lib.Seq.{paste, take-paste, drop-paste, length-paste, drop-drop, take-add}
 use Rattle.store_rows.specs.Changed.{written}
 use Rattle.store_rows.proofs.Lists.{same_drop}
 use Rattle.store_rows.proofs.Shifting.{Shifting}
 
--- the chunk is what was lifted
-lifted : (chunk xs : List ℕ) → length chunk ≡ length xs → written chunk 0 xs ≡ xs
-unfolding written
-lifted chunk xs e = ap (λ (l : List ℕ). xs ++ l) (drop_of_length-le chunk {i = 0 + length xs} (omega arith)) ∙ append-nil xs
+-- octets written over a part of a block
+pub hop-all : {k' : ℕ} {ys : List ℕ} (b src : List ℕ) (to k : ℕ) → ys ≡ take k src → k' ≡ k → put_mid to k' b ys ≡ paste b to src k
+hop-all b src to k e f = rw (e, f, drop-drop k to b) (sym (append_assoc (take to b) (take k src) (drop (to + k) b)))
 
-pub hop-all : {chunk xs b' : List ℕ} (b chunk₀ : List ℕ) (from to k : ℕ) → from + k ≤ length b → length chunk₀ ≡ k
-    → xs ≡ take k (drop from b) → chunk ≡ written chunk₀ 0 xs → b' ≡ written b to chunk → b' ≡ paste b to (drop from b) k
+pub all-written : {k : ℕ} {ys xs : List ℕ} (b : List ℕ) (at : ℕ) → ys ≡ xs → k ≡ length xs → put_mid at k b ys ≡ written b at xs
 unfolding written
-hop-all {chunk} {xs} b chunk₀ from to k h l x c e =
-    let src = take k (drop from b) in
-    let ls : length src ≡ k = length-take-le k (drop from b) (omega (arith, length-drop from b)) in
-    let whole : chunk ≡ src = c ∙ ap (λ (y : List ℕ). written chunk₀ 0 y) x ∙ lifted chunk₀ src (l ∙ sym ls) in
-    e ∙ ap (λ (y : List ℕ). take to b ++ (y ++ drop (to + length y) b)) whole
-    ∙ ap (λ (y : ℕ). take to b ++ (src ++ drop (to + y) b)) ls ∙ sym (append_assoc (take to b) src (drop (to + k) b))
+all-written {xs = xs} b at e f = rw (e, f, drop-drop (length xs) at b)
 
 -- k octets more
 pub shift-on : {b b' b'' : List ℕ} {from to n i : ℕ} (k : ℕ) → Shifting b from to n i b'

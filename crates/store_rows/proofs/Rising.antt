@@ -1,26 +1,29 @@
 -- Greetings in order of start, apart and inside: `rising-head` (the first, and the rest), `rising-next` (row i of a table), and the loop
 -- that judges them.
 use Prim.Native.Nat.{ℕ, zero, suc, ◌+◌, ◌*◌, ◌≤◌, ◌<◌}
-use mathlib.Core.Path.{◌≡◌}
-use mathlib.Core.List.{List, ◌∷◌}
-use mathlib.Core.Bool.{true, false}
+use mathlib.Core.Path.{◌≡◌, refl}
+use mathlib.Core.List.{List, [], ◌∷◌}
+use mathlib.Core.Bool.{Bool, true, false}
 use native.Mathlib.Omega.{arith}
 use native.Mathlib.Nat.{not-suc-le-zero}
 use lib.ListN.{get_or}
 use lib.Dec.{ltb}
-use borrow.Author.Tests.{lt-ltb, le-ltb, ltb-false}
+use borrow.Author.Tests.{le-ltb, ltb-false}
 use Rattle.store_rows.specs.declared.rows.Row.{Row}
 use Rattle.store_rows.specs.Rows.{held}
 use Rattle.store_rows.specs.Cells.{row_at, rows_at}
 use Rattle.store_rows.specs.Sane.{rising}
 use Rattle.store_rows.proofs.Lists.{passed}
-use Rattle.store_rows.proofs.Left.{left, left-none, left_step}
 
 -- a row of rows that rise
 pub record Next (least to size : ℕ) (r : Row) : Type 0 where
   pub above : to ≤ r.start
   pub some : least ≤ r.octets
   pub inside : r.start + r.octets ≤ size
+
+not_true : (b : Bool) → (b ≡ true → ⊥) → b ≡ false
+not_true true never = absurd (never refl)
+not_true false never = refl
 
 pub rising-head : (least at size : ℕ) (r : Row) (rs : List Row) → rising least at size (r ∷ rs) ≡ true
     → Next least at size r × (rising least (r.start + r.octets) size rs ≡ true)
@@ -47,28 +50,24 @@ rising-next t least size at (suc n) k (suc i) h e =
     let b' = rw z at b in
     record { above = omega (arith, a.0.above, b'.above); some = b'.some; inside = b'.inside }
 
--- the loop
-module _ (t : List ℕ) (n i least size at : ℕ) where
-  pub rising-end : n ≤ i → true ≡ rising least at size (left t n i)
+-- the loop that judges them
+module _ {least at size : ℕ} {r : Row} (rs : List Row) where
+  pub rising-turn : Next least at size r → rising least at size (r ∷ rs) ≡ rising least (r.start + r.octets) size rs
   unfolding rising
-  rising-end h = rw (left-none t n i h)
+  rising-turn n =
+      rw (le-ltb r.start at n.above, le-ltb r.octets least n.some, le-ltb size (r.start + r.octets) n.inside)
 
-  module _ {r : Row} (e : r ≡ row_at t (1 + 3 * i)) (h : i < n) where
-    pub rising-low : r.start < at → false ≡ rising least at size (left t n i)
-    unfolding rising
-    rising-low a = rw (left_step t n i e h, lt-ltb r.start at a)
+  pub rising-stops : (Next least at size r → ⊥) → rising least at size (r ∷ rs) ≡ false
+  rising-stops never = not_true _ (λ e. never ((rising-head least at size r rs e).0))
 
-    pub rising-few : at ≤ r.start → r.octets < least → false ≡ rising least at size (left t n i)
-    unfolding rising
-    rising-few a b = rw (left_step t n i e h, le-ltb r.start at a, lt-ltb r.octets least b)
+-- those that rise are inside, one behind another
+pub rising-held : (least at size : ℕ) (rs : List Row) → at ≤ size → rising least at size rs ≡ true → at + held rs ≤ size
+unfolding held
+rising-held least at size [] h e = omega arith
+rising-held least at size (r ∷ rs) h e =
+    let n = rising-head least at size r rs e in
+    let i = rising-held least (r.start + r.octets) size rs n.0.inside n.1 in
+    omega (arith, n.0.above, i)
 
-    pub rising-out : at ≤ r.start → least ≤ r.octets → size < r.start + r.octets → false ≡ rising least at size (left t n i)
-    unfolding rising
-    rising-out a b c =
-        rw (left_step t n i e h, le-ltb r.start at a, le-ltb r.octets least b, lt-ltb size (r.start + r.octets) c)
-
-    pub rising-turn : at ≤ r.start → least ≤ r.octets → r.start + r.octets ≤ size
-        → rising least at size (left t n i) ≡ rising least (r.start + r.octets) size (left t n (i + 1))
-    unfolding rising
-    rising-turn a b c =
-        rw (left_step t n i e h, le-ltb r.start at a, le-ltb r.octets least b, le-ltb size (r.start + r.octets) c)
+pub rising-within : (least size : ℕ) (rs : List Row) → rising least 0 size rs ≡ true → held rs ≤ size
+rising-within least size rs e = omega (arith, rising-held least 0 size rs (omega arith) e)

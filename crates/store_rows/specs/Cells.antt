@@ -13,6 +13,13 @@ unfoldable pub rows_at : List ℕ → ℕ → ℕ → List Row
 rows_at t zero k = []
 rows_at t (suc n) k = row_at t k ∷ rows_at t n (k + row_cells)
 
+-- the rows of cells that hold nothing else
+unfoldable pub rows_in : List ℕ → List Row
+rows_in [] = []
+rows_in (a ∷ []) = []
+rows_in (a ∷ b ∷ []) = []
+rows_in (a ∷ b ∷ c ∷ rest) = record { number = a; start = b; octets = c } ∷ rows_in rest
+
 -- the greetings of a table
 abbrev pub rows_of : List ℕ → List Row
 rows_of t = rows_at t (get_or t 0 0) 1

@@ -1,10 +1,11 @@
 // The greetings of a store, as a list that lies in a lent table (document 02, R-6): found, counted and judged.
 // What the cells mean stands in specs/Cells.
 ghost use Rattle.std.specs.Prelude.{◌≡◌, ◌+◌, ◌*◌, ◌-◌, ◌^◌, ◌≤◌, ◌<◌, min, length, get_or};
-ghost use Rattle.store_rows.specs.Limits.{largest_block, row_cells, list_cells};
+ghost use Rattle.std.specs.Iterator.{YieldsFirst, item_count};
+ghost use Rattle.store_rows.specs.Limits.{is_number as in_range, largest_block, row_cells, list_cells};
 ghost use Rattle.store_rows.specs.Rows.{held as held_by};
-ghost use Rattle.store_rows.specs.Finding.{find_from, lowest_gap};
-ghost use Rattle.store_rows.specs.Cells.{row_at, rows_at, rows_of};
+ghost use Rattle.store_rows.specs.Finding.{place_of, lowest_gap};
+ghost use Rattle.store_rows.specs.Cells.{row_at, rows_in, rows_at, rows_of};
 ghost use Rattle.store_rows.specs.Sane.{rising, numbered, sane_of, Ordered};
 
 // The greatest size of a block: "Walks take up to 1,048,576 octets and a store block may be that large" (R-11).
@@ -21,34 +22,59 @@ pub const ROW_CELLS: usize = 3;
 pub const LIST_CELLS: usize = 97;
 
 // A greeting: its number, where it starts in the block, and its octets.
-#[derive(Drop)]
+#[derive(Clone, Copy)]
 pub struct Row {
     pub number: usize,
     pub start: usize,
     pub octets: usize,
 }
 
-// How many greetings lie below a gap, and where it starts.
-#[derive(Drop)]
-pub enum Gap {
-    At(usize, usize),
-    Nowhere,
+// The cells of rows that are still to come, three a row.
+#[derive(Clone, Copy)]
+pub struct Rows<'a> {
+    cells: &'a [u32],
+}
+
+impl<'a> Iterator for Rows<'a> {
+    type Item = Row;
+
+    ghost next_gives = { YieldsFirst (λ s. rows_in s.cells.now) };
+
+    ghost remaining = { item_count (λ s. rows_in s.cells.now) };
+
+    fn next(&mut self) -> Option<Row> {
+        let (row, rest) = self.cells.split_first_chunk::<3>()?;
+        self.cells = rest;
+        Some(Row {
+            number: row[0] as usize,
+            start: row[1] as usize,
+            octets: row[2] as usize,
+        })
+    }
+}
+
+// The first n greetings of a table.
+pub fn greetings(table: &[u32], n: usize) -> Rows<'_>
+    requires { (n ≤ 32) × (list_cells ≤ length table.now) }
+    ensures { rows_in result.cells.now ≡ rows_at table.now n 1 }
+{
+    Rows {
+        cells: &table[1..1 + ROW_CELLS * n],
+    }
 }
 
 // The size of a lent block; octets past it are never touched.
 pub fn size_of(len: usize) -> usize
     ensures { result ≡ min len largest_block }
 {
-    if len < LARGEST_BLOCK {
-        return len;
-    }
-    LARGEST_BLOCK
+    len.min(LARGEST_BLOCK)
 }
 
-pub fn wide(x: u32) -> usize
-    ensures { result ≡ x }
+// "a number from 1 to 65,535"
+pub fn is_number(x: usize) -> bool
+    ensures { result ≡ in_range x }
 {
-    x as usize
+    (1..=MOST_NUMBER).contains(&x)
 }
 
 // The row at a place of the table.
@@ -57,26 +83,18 @@ pub fn row_at(table: &[u32], k: usize) -> Row
     ensures { (result ≡ row_at table.now k) × (result.start < 2 ^ 32) × (result.octets < 2 ^ 32) }
 {
     Row {
-        number: wide(table[k]),
-        start: wide(table[k + 1]),
-        octets: wide(table[k + 2]),
+        number: table[k] as usize,
+        start: table[k + 1] as usize,
+        octets: table[k + 2] as usize,
     }
 }
 
-// The place of a number among the greetings from `from` on; or n, where it is absent.
-pub fn find(table: &[u32], n: usize, from: usize, number: usize) -> usize
-    requires { (from ≤ n) × (n ≤ 32) × (list_cells ≤ length table.now) }
-    ensures { (result ≡ find_from number from (rows_at table.now (n - from) (1 + row_cells * from))) × (result ≤ n) }
+// The place of a number among the greetings.
+pub fn find(table: &[u32], n: usize, number: usize) -> Option<usize>
+    requires { (n ≤ 32) × (list_cells ≤ length table.now) }
+    ensures { result ≡ place_of number (rows_at table.now n 1) }
 {
-    let mut i = from;
-    while i < n {
-        let r = row_at(table, 1 + ROW_CELLS * i);
-        if r.number == number {
-            return i;
-        }
-        i += 1;
-    }
-    n
+    greetings(table, n).position(|r| r.number == number)
 }
 
 // Greetings of `least` octets or more, in order of start, apart, and inside the block.
@@ -84,22 +102,12 @@ pub fn rises(table: &[u32], n: usize, least: usize, size: usize) -> bool
     requires { (n ≤ 32) × (list_cells ≤ length table.now) }
     ensures { result ≡ rising least 0 size (rows_at table.now n 1) }
 {
-    let mut at = 0;
-    let mut i = 0;
-    while i < n {
-        let r = row_at(table, 1 + ROW_CELLS * i);
-        if r.start < at {
+    let mut end = 0;
+    for r in greetings(table, n) {
+        if r.start < end || r.octets < least || size < r.octets || size - r.octets < r.start {
             return false;
         }
-        if r.octets < least {
-            return false;
-        }
-        let end = r.start + r.octets;
-        if size < end {
-            return false;
-        }
-        at = end;
-        i += 1;
+        end = r.start + r.octets;
     }
     true
 }
@@ -109,19 +117,12 @@ pub fn distinct(table: &[u32], n: usize) -> bool
     requires { (n ≤ 32) × (list_cells ≤ length table.now) }
     ensures { result ≡ numbered (rows_at table.now n 1) }
 {
-    let mut i = 0;
-    while i < n {
-        let r = row_at(table, 1 + ROW_CELLS * i);
-        if r.number < 1 {
+    let mut rest = greetings(table, n);
+    while let Some(r) = rest.next() {
+        let mut others = rest;
+        if !is_number(r.number) || others.any(|s| s.number == r.number) {
             return false;
         }
-        if MOST_NUMBER < r.number {
-            return false;
-        }
-        if find(table, n, i + 1, r.number) < n {
-            return false;
-        }
-        i += 1;
     }
     true
 }
@@ -133,14 +134,8 @@ pub fn sane(table: &[u32], size: usize) -> bool
     if table.len() < LIST_CELLS {
         return false;
     }
-    let n = wide(table[0]);
-    if MOST_GREETINGS < n {
-        return false;
-    }
-    if rises(table, n, 1, size) {
-        return distinct(table, n);
-    }
-    false
+    let n = table[0] as usize;
+    n <= MOST_GREETINGS && rises(table, n, 1, size) && distinct(table, n)
 }
 
 // The octets held.
@@ -148,31 +143,24 @@ pub fn held(table: &[u32], n: usize, size: usize) -> usize
     requires { (n ≡ get_or table.now 0 0) × Ordered size table.now × (size < 2 ^ 32) }
     ensures { (result ≡ held_by (rows_of table.now)) × (result ≤ size) }
 {
-    let mut sum = 0;
-    for i in 0..n {
-        let r = row_at(table, 1 + ROW_CELLS * i);
-        sum += r.octets;
-    }
-    sum
+    greetings(table, n).map(|r| r.octets).sum()
 }
 
-// "the lowest gap that holds it"
-pub fn lowest_gap(table: &[u32], n: usize, size: usize, want: usize) -> Gap
+// "the lowest gap that holds it": how many greetings lie below it, and where it starts.
+pub fn lowest_gap(table: &[u32], n: usize, size: usize, want: usize) -> Option<(usize, usize)>
     requires { (n ≡ get_or table.now 0 0) × Ordered size table.now × (size < 2 ^ 32) × (want ≤ size) }
     ensures { result ≡ lowest_gap want size (rows_of table.now) }
 {
     let mut at = 0;
-    let mut i = 0;
-    while i < n {
-        let r = row_at(table, 1 + ROW_CELLS * i);
+    for (i, r) in greetings(table, n).enumerate() {
         if at + want <= r.start {
-            return Gap::At(i, at);
+            return Some((i, at));
         }
         at = r.start + r.octets;
-        i += 1;
     }
     if at + want <= size {
-        return Gap::At(n, at);
+        Some((n, at))
+    } else {
+        None
     }
-    Gap::Nowhere
 }

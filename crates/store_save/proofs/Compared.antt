@@ -18,8 +18,7 @@ use Rattle.store_greeting.specs.Marks.{Mark, Note, note_of}
 use Rattle.text_keyvalue.specs.Reading.{Read, whole, none, and_then, begins}
 use Rattle.text_keyvalue.specs.Lines.{line}
 use Rattle.text_keyvalue.proofs.Exact.{through, got-value, got-place}
-use Rattle.store_text.specs.declared.Next.{Next}
-use Rattle.store_text.specs.declared.Next.TheVariants.{To, Astray}
+use Rattle.std.specs.Prelude.{Option, Some, None}
 use Rattle.store_text.specs.Noted.{Listed, mark_word, mark_line, mark_lines_from, mark_lines, listed, listed_from, listed_at, rows_listed}
 use Rattle.store_text.specs.Passing.{head_of, headed, noted, next_of, mark_is, no_mark, marks_are, samples_is, note_is}
 use Rattle.store_text.proofs.Lines.{listed-parts, noted-law}
@@ -29,12 +28,12 @@ use Rattle.store_save.specs.Steps.{greetings_of, Fitting}
 use Rattle.store_save.proofs.Bad.{part_same}
 
 -- samples that are right, and then what is found of the marks
-pub note-told : (samples : ℕ) (ms : List Mark) (text : List ℕ) (i : ℕ) {j : ℕ} {r : Next} → To j ≡ next_of (samples_is samples text i)
+pub note-told : (samples : ℕ) (ms : List Mark) (text : List ℕ) (i : ℕ) {j : ℕ} {r : Option ℕ} → Some j ≡ next_of (samples_is samples text i)
     → r ≡ next_of (marks_are ms text j) → r ≡ next_of (note_is samples ms text i)
 note-told samples ms text i e f = f ∙ sym (note-on samples ms text i e)
 
-abbrev to : Bool → ℕ → Next
-to t j = cond t (To j) Astray
+abbrev to : Bool → ℕ → Option ℕ
+to t j = cond t (Some j) None
 
 -- the marks after those that are done, compared with any
 record After (done all : List Mark) (text : List ℕ) (i j : ℕ) : Type 0 where
@@ -51,7 +50,7 @@ no_more {done} {all} {text} {i} {j} h e = record { new = []; parts = sym (got-va
     p = got-place e
 
     go : (ms : List Mark) → next_of (marks_are ms text i) ≡ to (same_marks [] ms) j
-    go [] = rw h (ap To p)
+    go [] = rw h (ap Some p)
     go (m ∷ ms) = rw h
 
 one_more : {done all : List Mark} {text : List ℕ} {i j k : ℕ} (q : Mark) → begins mark_word (drop i text) ≡ true
@@ -305,22 +304,22 @@ module _ {far : ℕ} {text b : List ℕ} {size left at : ℕ} {answer : Bool} {r
   pub turn-part : {xs : List ℕ} → xs ≡ greeting b r → size ≤ largest_block → (length xs ≤ largest_block) × (is_bad law xs ≡ false)
   turn-part q h = rw q (omega (arith, t.inside, length-take r.octets (drop r.start b)), t.fine)
 
-  pub turn-astray : {xs : List ℕ} → xs ≡ greeting b r → Astray ≡ next_of (note_is (note_of law xs).samples (note_of law xs).marks text place)
+  pub turn-astray : {xs : List ℕ} → xs ≡ greeting b r → None ≡ next_of (note_is (note_of law xs).samples (note_of law xs).marks text place)
       → false ≡ answer
   turn-astray q e =
       let g = note_of law (greeting b r) in
       go (same_note t.note g) refl ((rw q at e) ∙ note-compared text law place t.note g t.next t.notes)
     where
-      go : (u : Bool) → same_note t.note (note_of law (greeting b r)) ≡ u → Astray ≡ to u t.next → false ≡ answer
+      go : (u : Bool) → same_note t.note (note_of law (greeting b r)) ≡ u → None ≡ to u t.next → false ≡ answer
       go true f g = let z : ◌≡◌ {A = ℕ} 0 1 = cc in absurd (omega arith)
       go false f g = t.wrong f
 
   pub turn_on : {xs : List ℕ} {j : ℕ} → xs ≡ greeting b r
-      → To j ≡ next_of (note_is (note_of law xs).samples (note_of law xs).marks text place) → Comparing far text b size left j answer
+      → Some j ≡ next_of (note_is (note_of law xs).samples (note_of law xs).marks text place) → Comparing far text b size left j answer
   turn_on {xs} {j} q e =
       let g = note_of law (greeting b r) in
       go (same_note t.note g) refl ((rw q at e) ∙ note-compared text law place t.note g t.next t.notes)
     where
-      go : (u : Bool) → same_note t.note (note_of law (greeting b r)) ≡ u → To j ≡ to u t.next → Comparing far text b size left j answer
+      go : (u : Bool) → same_note t.note (note_of law (greeting b r)) ≡ u → Some j ≡ to u t.next → Comparing far text b size left j answer
       go true f g = let z : j ≡ t.next = cc in rw z (t.on f)
       go false f g = let z : ◌≡◌ {A = ℕ} 0 1 = cc in absurd (omega arith)

@@ -8,8 +8,7 @@ use native.Mathlib.Omega.{arith}
 use Rattle.rules.specs.Judged.{Asked, judged}
 use Rattle.rules.proofs.Judged.{AllMet, First, by-judged, Apart, judged-refuses, Gives, first_gives}
 use Rattle.store.specs.declared.Refusal.{Refusal}
-use Rattle.store.specs.declared.Answer.{Answer}
-use Rattle.store.specs.Calls.{refusal_number}
+use Rattle.store.specs.Calls.{Answer, refusal_number}
 use Rattle.store_save.specs.Saved.{saved, declined, save_order, save_of}
 use Rattle.store_save.specs.Calls.{Save, Load}
 

@@ -17,7 +17,8 @@ use Rattle.store_notes.proofs.Noting.{heads-notes, length-heads}
 use Rattle.store_notes.proofs.Matched.{sane-noted, room_for}
 use Rattle.store.specs.declared.Refusal.{Refusal}
 use Rattle.store.specs.declared.Refusal.TheVariants.{Room, Table}
-use Rattle.store.specs.declared.Answer.TheVariants.{Done, Refused}
+use Rattle.store.specs.Calls.{Answer}
+use Rattle.std.specs.Prelude.{Ok, Err}
 use Rattle.store_text.specs.Table.{most_place}
 use Rattle.store_text.specs.Noted.{Listed, rows_listed, listing, listed_text}
 use Rattle.store_text.specs.Form.{form_line, needs_form, saved_text, form_by}
@@ -28,7 +29,7 @@ use Rattle.store_save.specs.Saved.{Text, declined, save_of}
 use Rattle.store_save.specs.Calls.{Writes, Save}
 use Rattle.store_save.proofs.Bad.{law-at}
 
-declines : (x : Text) (out : List ℕ) {w : Refusal} → x ≡ declined w → Writes x out out (Refused w)
+declines : (x : Text) (out : List ℕ) {w : Refusal} → x ≡ declined w → Writes x out out (Err w)
 declines x out e = rw e (record { answer = refl; lent = refl })
 
 -- a text put at the start
@@ -49,7 +50,7 @@ module _ (t : List ℕ) {n : ℕ} (c : n ≡ get_or t 0 0) (d : get_or t 97 0 �
   heads-as = rw second
 
 module _ (b t out : List ℕ) {size : ℕ} {x : Bool} (z : size ≡ size_of b) (e : x ≡ sane_store size t) where
-  pub save-table : x ≡ false → Save b t out out (Refused Table)
+  pub save-table : x ≡ false → Save b t out out (Err Table)
   save-table f = declines (save_of b t (length out)) out (rw (← z, ← e, f))
 
   module _ (f : x ≡ true) where
@@ -85,12 +86,12 @@ module _ (b t out : List ℕ) {size : ℕ} {x : Bool} (z : size ≡ size_of b) (
         measured : octets ≡ length (saved_text size (listing (rows_of t) (notes_of t)))
         measured = o ∙ ap length text-as
 
-        pub save-room : length out < octets → Save b t out out (Refused Room)
+        pub save-room : length out < octets → Save b t out out (Err Room)
         save-room h = declines (save_of b t (length out)) out (rw (← z, ← e, f, ← measured, lt-ltb (length out) octets h))
 
         pub save-text : {out' : List ℕ} {r : ℕ} → octets ≤ length out → Puts out 0 (form_by size ++ listed_text (held_of t n)) out' r
-            → Save b t out out' (Done r 0)
+            → Save b t out out' (Ok (r, 0))
         save-text h p =
             let s = puts-start (rw text-as at p) in
             rw (← z, ← e, f, ← measured, le-ltb (length out) octets h)
-            (record { answer = ap (λ (k : ℕ). Done k 0) s.0; lent = s.1 })
+            (record { answer = ap {B = Answer} (λ (k : ℕ). Ok (k, 0)) s.0; lent = s.1 })

@@ -13,7 +13,7 @@ use Rattle.store_greeting.specs.Bad.{is_bad}
 use Rattle.store_greeting.proofs.Bad.{bad-empty, bad-law}
 use Rattle.store_greeting.specs.Marks.{Mark, note_of, mark_cells}
 use Rattle.store_greeting.specs.declared.marks.Tally.{Tally}
-use Rattle.store_greeting.specs.declared.marks.Tally.TheVariants.{Wrong}
+use Rattle.std.specs.Prelude.{Option, None}
 use Rattle.store_greeting.specs.Taking.{Takes}
 use Rattle.store_greeting.proofs.Taking.{taken-bad}
 use Rattle.store_greeting.proofs.Bounds.{Small, note-small}
@@ -64,8 +64,8 @@ taken-small {head} {xs} {cells} t h j l =
     subst (λ (x : List ℕ). get_or x j 0 < 4294967295) (sym all) c
 
 -- a greeting that is not BAD is counted
-pub tally-wrong : {law : ℕ} {xs cells cells' : List ℕ} {r : Tally} → Takes law xs cells cells' r → is_bad law xs ≡ false
-    → {A : Type 0} → r ≡ Wrong → A
+pub tally-wrong : {law : ℕ} {xs cells cells' : List ℕ} {r : Option Tally} → Takes law xs cells cells' r → is_bad law xs ≡ false
+    → {A : Type 0} → r ≡ None → A
 tally-wrong {law} {xs} t f e =
     let b = taken-bad law xs (rw e at t) in
     let z : ◌≡◌ {A = Bool} true false = sym b ∙ f in

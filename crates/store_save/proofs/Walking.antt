@@ -14,8 +14,7 @@ use Rattle.store_greeting.specs.Bad.{is_bad, store_set}
 use Rattle.store_greeting.specs.Marks.{Mark, mark_of, note_of}
 use Rattle.store_greeting.proofs.Taking.{Along, next, along-start, along-turn, along-inside}
 use Rattle.store_greeting.proofs.Taking.{along-samples, next-clean, next-on, marks-here, marks-over}
-use Rattle.store_text.specs.declared.Next.{Next}
-use Rattle.store_text.specs.declared.Next.TheVariants.{To, Astray}
+use Rattle.std.specs.Prelude.{Option, Some, None}
 use Rattle.store_text.specs.Passing.{next_of, mark_is, no_mark, marks_are}
 use Rattle.store_text.proofs.Marks.{marks-astray, marks-on, marks-done}
 
@@ -23,7 +22,7 @@ module _ (law : ℕ) (xs : List ℕ) (text : List ℕ) (place : ℕ) where
   abbrev all : List Mark
   all = (note_of law xs).marks
 
-  abbrev answer : Next
+  abbrev answer : Option ℕ
   answer = next_of (marks_are all text place)
 
   -- the marks of what was walked are the same; what is left is to be compared
@@ -47,13 +46,13 @@ module _ (law : ℕ) (xs : List ℕ) (text : List ℕ) (place : ℕ) where
         here : answer ≡ next_of (marks_are (mark_of at samples ∷ drop (w.m + 1) all) text i)
         here = w.left ∙ ap (λ (ms : List Mark). next_of (marks_are ms text i)) (marks-here law xs w.along l g f h)
 
-        pub walking-astray : Astray ≡ next_of (mark_is at samples text i) → Astray ≡ answer
+        pub walking-astray : None ≡ next_of (mark_is at samples text i) → None ≡ answer
         walking-astray e = marks-astray (mark_of at samples) (drop (w.m + 1) all) text i e ∙ sym here
 
         pub walking_on : {r : WalkAnswer} → Counts (next law xs at) r → at < r.place
         walking_on c = omega (arith, c.place, next-on law xs w.along h (next-clean law xs w.along l g f h))
 
-        pub walking-turn : {j : ℕ} {r : WalkAnswer} → To j ≡ next_of (mark_is at samples text i) → Counts (next law xs at) r
+        pub walking-turn : {j : ℕ} {r : WalkAnswer} → Some j ≡ next_of (mark_is at samples text i) → Counts (next law xs at) r
             → Walking j r.place (samples + r.samples)
         walking-turn e c =
             record {
@@ -62,6 +61,6 @@ module _ (law : ℕ) (xs : List ℕ) (text : List ℕ) (place : ℕ) where
               left = here ∙ marks-on (mark_of at samples) (drop (w.m + 1) all) text i e;
             }
 
-      pub walking-end : length xs ≤ at → {r : Next} → r ≡ next_of (no_mark text i) → r ≡ answer
+      pub walking-end : length xs ≤ at → {r : Option ℕ} → r ≡ next_of (no_mark text i) → r ≡ answer
       walking-end h e =
           marks-done text i e ∙ sym (w.left ∙ ap (λ (ms : List Mark). next_of (marks_are ms text i)) (marks-over law xs w.along l g f h))

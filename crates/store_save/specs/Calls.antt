@@ -1,17 +1,14 @@
 -- The contract of each public call: its answer, the lent table and the lent octets, for any block, table and text at all.
-use Rattle.std.specs.Prelude.{ℕ, ◌≡◌, List, [], ◌++◌, length, drop}
-use Rattle.store.specs.declared.Answer.{Answer}
-use Rattle.store.specs.declared.Answer.TheVariants.{Done, Refused}
+use Rattle.std.specs.Prelude.{ℕ, ◌≡◌, List, [], ◌++◌, length, drop, Ok, Err}
 use Rattle.store.specs.Store.{Outcome, leaves, refused}
-use Rattle.store.specs.Calls.{answer_of, table_after}
-use Rattle.store_save.specs.declared.Verdict.{Verdict}
-use Rattle.store_save.specs.declared.Verdict.TheVariants.{Stop, Fine}
+use Rattle.store.specs.Calls.{Answer, answer_of, table_after}
+use Rattle.store_save.specs.Verdicts.{Verdict}
 use Rattle.store_save.specs.Saved.{Text, saved, declined, save_of, load_of}
 
 -- a saving tells the octets of its text
 abbrev pub told_of : Text → Answer
-told_of (saved text) = Done (length text) 0
-told_of (declined w) = Refused w
+told_of (saved text) = Ok (length text, 0)
+told_of (declined w) = Err w
 
 abbrev pub text_of : Text → List ℕ
 text_of (saved text) = text
@@ -35,5 +32,5 @@ Load text b t t' r = Takes (load_of text b t) t t' r
 
 -- in the code's steps: whether it is taken
 abbrev pub verdict_of : Outcome → Verdict
-verdict_of (leaves a) = Fine
-verdict_of (refused w) = Stop w
+verdict_of (leaves a) = Ok tt
+verdict_of (refused w) = Err w

@@ -1,5 +1,5 @@
 -- Loading in the code's steps: the greetings of a text as rows and laws in cells, of R-6's lines or of R-8's.
-use Rattle.std.specs.Prelude.{ℕ, ◌+◌, ◌*◌, ◌≤◌, ◌≡◌, List, [], ◌∷◌, ◌++◌, Bool, true, false, cond, length, get_or, drop}
+use Rattle.std.specs.Prelude.{ℕ, ◌+◌, ◌*◌, ◌≤◌, ◌≡◌, List, [], ◌∷◌, ◌++◌, Bool, true, false, cond, length, get_or, drop, Ok, Err}
 use Rattle.rules.specs.Judged.{Asked, ask, bar, judged}
 use Rattle.store_rows.specs.declared.rows.Row.{Row}
 use Rattle.store_rows.specs.Limits.{largest_block, most_greetings, list_cells}
@@ -12,14 +12,12 @@ use Rattle.store_notes.specs.Cells.{second_list, first_mark, heads_of, marks_hel
 use Rattle.store_notes.specs.Sane.{store_cells}
 use Rattle.store.specs.declared.Refusal.{Refusal}
 use Rattle.store.specs.declared.Refusal.TheVariants.{Bad, Table}
-use Rattle.store.specs.declared.Answer.{Answer}
-use Rattle.store.specs.declared.Answer.TheVariants.{Done, Refused}
+use Rattle.store.specs.Calls.{Answer}
 use Rattle.text_keyvalue.specs.Reading.{Read, whole, none}
 use Rattle.store_text.specs.Noted.{Listed, rows_listed}
 use Rattle.store_text.specs.Fills.{laws_listed}
 use Rattle.store_save.specs.Saved.{any_bad}
-use Rattle.store_save.specs.declared.Verdict.{Verdict}
-use Rattle.store_save.specs.declared.Verdict.TheVariants.{Stop, Fine}
+use Rattle.store_save.specs.Verdicts.{Verdict}
 
 -- "BAD", greeting by greeting, each walked by its law
 unfoldable pub bad_by : List ℕ → List Row → List ℕ → Bool
@@ -36,7 +34,7 @@ abbrev pub rows_asks : ℕ → List Row → Bool → List (Asked Refusal)
 rows_asks size rows bad = ask Table (rising 0 0 size rows) ∷ ask Table (numbered rows) ∷ bar Bad bad ∷ []
 
 unfoldable pub judged_by : List ℕ → ℕ → List Row → List ℕ → Verdict
-judged_by b size rows laws = judged (rows_asks size rows (bad_by b rows laws)) Stop Fine
+judged_by b size rows laws = judged (rows_asks size rows (bad_by b rows laws)) Err (Ok tt)
 
 -- the greetings of a text, and whether it is one
 abbrev pub greetings_of : Read (List Listed) → List Listed
@@ -86,12 +84,12 @@ pub record AllNotes (b cells laws : List ℕ) (n size : ℕ) (t : List ℕ) : Ty
 
 -- what a verdict leads to: the greetings of the cells and their notes in the table, or the table as it was
 abbrev pub told_by : Verdict → Answer
-told_by (Stop w) = Refused w
-told_by Fine = Done 0 0
+told_by (Err w) = Err w
+told_by (Ok _) = Ok (0, 0)
 
 abbrev pub left_by : Verdict → List ℕ → List ℕ → List ℕ
-left_by (Stop w) new old = old
-left_by Fine new old = new
+left_by (Err w) new old = old
+left_by (Ok _) new old = new
 
 pub record Holds (v : Verdict) (b cells laws : List ℕ) (n : ℕ) (t t' : List ℕ) (r : Answer) : Type 0 where
   pub answer : r ≡ told_by v

@@ -15,21 +15,14 @@ ghost use Rattle.store_notes.specs.Sane.{store_cells};
 ghost use Rattle.store_text.specs.Noted.{listed_at};
 ghost use Rattle.store_text.specs.Passing.{next_of, marks_are, note_is};
 ghost use Rattle.store_save.specs.Saved.{all_true, load_in, load_noted};
-ghost use Rattle.store_save.specs.declared.Verdict.TheVariants.{Fine};
 ghost use Rattle.store_save.specs.Steps.{bad_by, notes_by, judged_by, greetings_of, is_whole, Celled, Fitting, OneMore, AllNotes};
-ghost use Rattle.store_save.specs.Steps.{Holds};
 ghost use Rattle.store_save.specs.Calls.{verdict_of, Save, Load, Takes};
 
 use store::{Answer, Refusal};
-use store_greeting::marks::Tally;
-use store_text::{Count, Form, Head, Next};
+use store_text::Form;
 
 // Whether a text is taken, and why not.
-#[derive(Drop)]
-pub enum Verdict {
-    Stop(Refusal),
-    Fine,
-}
+pub type Verdict = Result<(), Refusal>;
 
 // "BAD", greeting by greeting, each walked by its own law.
 fn any_bad(block: &[u8], cells: &[u32], laws: &[u32], n: usize, size: usize) -> bool
@@ -37,15 +30,11 @@ fn any_bad(block: &[u8], cells: &[u32], laws: &[u32], n: usize, size: usize) -> 
         × (size ≤ length block.now) × (rising 0 0 size (rows_at cells.now n 1) ≡ true) }
     ensures { result ≡ bad_by block.now (rows_at cells.now n 1) laws.now }
 {
-    let mut i = 0;
-    while i < n {
+    for i in 0..n {
         let r = store_rows::rows::row_at(cells, 1 + store_rows::rows::ROW_CELLS * i);
-        let start = r.start;
-        let end = r.start + r.octets;
-        if store_greeting::greetings::is_bad(&block[start..end], laws[i]) {
+        if store_greeting::greetings::is_bad(&block[r.start..r.start + r.octets], laws[i]) {
             return true;
         }
-        i += 1;
     }
     false
 }
@@ -58,19 +47,21 @@ fn judge_rows(block: &[u8], cells: &[u32], laws: &[u32], n: usize) -> Verdict
 {
     let size = store_rows::rows::size_of(block.len());
     if !store_rows::rows::rises(cells, n, 0, size) {
-        return Verdict::Stop(Refusal::Table);
+        return Err(Refusal::Table);
     }
     if !store_rows::rows::distinct(cells, n) {
-        return Verdict::Stop(Refusal::Table);
+        return Err(Refusal::Table);
     }
     if any_bad(block, cells, laws, n, size) {
-        return Verdict::Stop(Refusal::Bad);
+        Err(Refusal::Bad)
+    } else {
+        Ok(())
     }
-    Verdict::Fine
 }
 
 // The marks that stand at a place of the text, beside those of a greeting that is walked once more.
-fn marks_walked(text: &[u8], place: usize, octets: &[u8], law: u32) -> Next
+// The loop goes on where the walk and the lines ended, and counts no index.
+fn marks_walked(text: &[u8], place: usize, octets: &[u8], law: u32) -> Option<usize>
     requires { (law ≤ most_law) × (length octets.now ≤ longest) × (is_bad law octets.now ≡ false) }
     ensures { result ≡ next_of (marks_are (note_of law octets.now).marks text.now place) }
 {
@@ -78,63 +69,54 @@ fn marks_walked(text: &[u8], place: usize, octets: &[u8], law: u32) -> Next
     let mut at = 0;
     let mut samples = 0;
     while at < octets.len() {
-        match store_text::mark_is(text, i, at, samples) {
-            Next::Astray => {
-                return Next::Astray;
-            }
-            Next::To(next) => {
-                let walked = walk::walk_on(
-                    octets,
-                    law,
-                    rules::ALL_TOOLS,
-                    at,
-                    store_greeting::marks::FRAMES_APART,
-                    store_greeting::marks::ROOM,
-                );
-                i = next;
-                at = walked.place;
-                samples += walked.samples;
-            }
-        }
+        i = store_text::mark_is(text, i, at, samples)?;
+        let walked = walk::walk_on(
+            octets,
+            law,
+            rules::ALL_TOOLS,
+            at,
+            store_greeting::marks::FRAMES_APART,
+            store_greeting::marks::ROOM,
+        );
+        at = walked.place;
+        samples += walked.samples;
     }
     store_text::no_mark(text, i)
 }
 
 // Beside those that were taken; a greeting that has more marks than stand there is walked once more.
-fn same_marks(text: &[u8], at: usize, octets: &[u8], head: store_notes::Head, marks: &[u32]) -> Next
+fn same_marks(
+    text: &[u8],
+    at: usize,
+    octets: &[u8],
+    head: store_notes::Head,
+    marks: &[u32],
+) -> Option<usize>
     requires { Taken head octets.now marks.now }
     ensures { result ≡ next_of (marks_are (note_of head.law octets.now).marks text.now at) }
 {
     if 2 * head.marks <= marks.len() {
-        return store_text::marks_are(text, at, marks, head.marks);
+        store_text::marks_are(text, at, marks, head.marks)
+    } else {
+        marks_walked(text, at, octets, head.law)
     }
-    marks_walked(text, at, octets, head.law)
 }
 
 // The samples and marks that stand at a place of the text, beside those that the greeting's walk gives.
-fn same_note(text: &[u8], place: usize, octets: &[u8], law: u32) -> Next
+fn same_note(text: &[u8], place: usize, octets: &[u8], law: u32) -> Option<usize>
     requires { (length octets.now ≤ largest_block) × (is_bad law octets.now ≡ false) }
     ensures { result ≡ next_of (note_is (note_of law octets.now).samples (note_of law octets.now).marks
         text.now place) }
 {
     let mut cells = [0u32; store_greeting::marks::KEPT_APART];
-    match store_greeting::marks::take(octets, law, &mut cells) {
-        Tally::Wrong => Next::Astray,
-        Tally::Counted(samples, m) => match store_text::samples_are(text, place, samples) {
-            Next::Astray => Next::Astray,
-            Next::To(at) => same_marks(
-                text,
-                at,
-                octets,
-                store_notes::Head {
-                    law: law,
-                    samples: samples,
-                    marks: m,
-                },
-                &cells,
-            ),
-        },
-    }
+    let taken = store_greeting::marks::take(octets, law, &mut cells)?;
+    let at = store_text::samples_are(text, place, taken.samples)?;
+    let head = store_notes::Head {
+        law,
+        samples: taken.samples,
+        marks: taken.marks,
+    };
+    same_marks(text, at, octets, head, &cells)
 }
 
 // "samples or marks that the walk doesn't give", over the whole table.
@@ -143,26 +125,16 @@ fn all_true(text: &[u8], form: Form, block: &[u8], size: usize, n: usize) -> boo
     ensures { result ≡ all_true block.now (greetings_of (listed_at form.most form.from text.now)) }
 {
     let mut at = form.from;
-    let mut i = 0;
-    while i < n {
-        match store_text::head_at(text, at, form.most) {
-            Head::Missing => {
-                return false;
-            }
-            Head::Begun(_, start, octets, law, place) => {
-                let from = store_rows::rows::wide(start);
-                let end = from + store_rows::rows::wide(octets);
-                match same_note(text, place, &block[from..end], law) {
-                    Next::Astray => {
-                        return false;
-                    }
-                    Next::To(next) => {
-                        at = next;
-                        i += 1;
-                    }
-                }
-            }
-        }
+    for _ in 0..n {
+        let Some((head, place)) = store_text::head_at(text, at, form.most) else {
+            return false;
+        };
+        let from = head.line.start as usize;
+        let end = from + head.line.octets as usize;
+        let Some(next) = same_note(text, place, &block[from..end], head.law) else {
+            return false;
+        };
+        at = next;
     }
     true
 }
@@ -181,14 +153,11 @@ fn judge_noted(
     ensures { result ≡ verdict_of (load_in block.now (size_of block.now)
         (greetings_of (listed_at form.most form.from text.now))) }
 {
-    match judge_rows(block, cells, laws, n) {
-        Verdict::Stop(why) => Verdict::Stop(why),
-        Verdict::Fine => {
-            if all_true(text, form, block, store_rows::rows::size_of(block.len()), n) {
-                return Verdict::Fine;
-            }
-            Verdict::Stop(Refusal::Table)
-        }
+    judge_rows(block, cells, laws, n)?;
+    if all_true(text, form, block, store_rows::rows::size_of(block.len()), n) {
+        Ok(())
+    } else {
+        Err(Refusal::Table)
     }
 }
 
@@ -198,16 +167,13 @@ fn store_note(octets: &[u8], law: u32, table: &mut [u32], i: usize)
     ensures { WithNote i (note_of law octets.now) table.old table.new }
 {
     let mut cells = [0u32; store_greeting::marks::KEPT_APART];
-    match store_greeting::marks::take(octets, law, &mut cells) {
-        Tally::Wrong => {}
-        Tally::Counted(samples, m) => {
-            let head = store_notes::Head {
-                law: law,
-                samples: samples,
-                marks: m,
-            };
-            store_notes::put_taken(table, i, i, head, octets, &cells);
-        }
+    if let Some(taken) = store_greeting::marks::take(octets, law, &mut cells) {
+        let head = store_notes::Head {
+            law,
+            samples: taken.samples,
+            marks: taken.marks,
+        };
+        store_notes::put_taken(table, i, i, head, octets, &cells);
     }
 }
 
@@ -218,13 +184,9 @@ fn store_notes(block: &[u8], cells: &[u32], laws: &[u32], n: usize, size: usize,
         ≡ notes_laid (notes_by block.now (rows_at cells.now n 1) laws.now) table.old }
 {
     table[store_notes::SECOND_LIST] = 0;
-    let mut i = 0;
-    while i < n {
+    for i in 0..n {
         let r = store_rows::rows::row_at(cells, 1 + store_rows::rows::ROW_CELLS * i);
-        let start = r.start;
-        let end = r.start + r.octets;
-        store_note(&block[start..end], laws[i], table, i);
-        i += 1;
+        store_note(&block[r.start..r.start + r.octets], laws[i], table, i);
     }
 }
 
@@ -234,33 +196,17 @@ fn put_rows(cells: &[u32], n: usize, table: &mut [u32])
         × (get_or cells.now 0 0 ≡ n) }
     ensures { table.new ≡ laid (rows_at cells.now n 1) table.old }
 {
-    for i in 0..1 + store_rows::rows::ROW_CELLS * n {
-        table[i] = cells[i];
-    }
+    let end = 1 + store_rows::rows::ROW_CELLS * n;
+    table[..end].copy_from_slice(&cells[..end]);
 }
 
-// What a verdict leads to: the greetings that were read into cells are put down with their notes, or nothing changes.
-fn hold(
-    verdict: Verdict,
-    block: &[u8],
-    cells: &[u32],
-    laws: &[u32],
-    n: usize,
-    size: usize,
-    table: &mut [u32],
-) -> Answer
-    requires { (get_or cells.now 0 0 ≡ n) × (verdict ≡ Fine → AllNotes block.now cells.now laws.now n size table.old) }
-    ensures { Holds verdict block.now cells.now laws.now n table.old
-        table.new result }
+// The greetings that were read into cells are put down with their notes.
+fn hold(block: &[u8], cells: &[u32], laws: &[u32], n: usize, size: usize, table: &mut [u32])
+    requires { (get_or cells.now 0 0 ≡ n) × AllNotes block.now cells.now laws.now n size table.old }
+    ensures { table.new ≡ notes_laid (notes_by block.now (rows_at cells.now n 1) laws.now) (laid (rows_at cells.now n 1) table.old) }
 {
-    match verdict {
-        Verdict::Stop(why) => Answer::Refused(why),
-        Verdict::Fine => {
-            put_rows(cells, n, table);
-            store_notes(block, cells, laws, n, size, table);
-            Answer::Done(0, 0)
-        }
-    }
+    put_rows(cells, n, table);
+    store_notes(block, cells, laws, n, size, table);
 }
 
 // A text of R-8's lines, in a form. It is judged before anything that is lent changes: its greetings go into cells of their own.
@@ -272,13 +218,12 @@ fn load_noted(text: &[u8], form: Form, block: &[u8], size: usize, table: &mut [u
 {
     let mut cells = [0u32; store_rows::rows::LIST_CELLS];
     let mut laws = [1u32; store_rows::rows::MOST_GREETINGS];
-    match store_text::read_noted(text, form, &mut cells, &mut laws) {
-        Count::Wrong => Answer::Refused(Refusal::Table),
-        Count::Greetings(n) => {
-            let verdict = judge_noted(text, form, block, &cells, &laws, n);
-            hold(verdict, block, &cells, &laws, n, size, table)
-        }
-    }
+    let Some(n) = store_text::read_noted(text, form, &mut cells, &mut laws) else {
+        return Err(Refusal::Table);
+    };
+    judge_noted(text, form, block, &cells, &laws, n)?;
+    hold(block, &cells, &laws, n, size, table);
+    Ok((0, 0))
 }
 
 // Loading: "A table all in R-6's lines is read by walking each greeting as law 1". The lent table is output: only its length is judged.
@@ -287,17 +232,16 @@ pub fn load(text: &[u8], block: &[u8], table: &mut [u32]) -> Answer
 {
     let size = store_rows::rows::size_of(block.len());
     if table.len() < store_notes::store_cells(size) {
-        return Answer::Refused(Refusal::Table);
+        return Err(Refusal::Table);
     }
     let mut cells = [0u32; store_rows::rows::LIST_CELLS];
+    let Some(n) = store_text::read_rows(text, &mut cells) else {
+        return load_noted(text, store_text::form_of(text), block, size, table);
+    };
     let laws = [1u32; store_rows::rows::MOST_GREETINGS];
-    match store_text::read_rows(text, &mut cells) {
-        Count::Wrong => load_noted(text, store_text::form_of(text), block, size, table),
-        Count::Greetings(n) => {
-            let verdict = judge_rows(block, &cells, &laws, n);
-            hold(verdict, block, &cells, &laws, n, size, table)
-        }
-    }
+    judge_rows(block, &cells, &laws, n)?;
+    hold(block, &cells, &laws, n, size, table);
+    Ok((0, 0))
 }
 
 // Saving: TABLE, then ROOM. The text is measured before anything is written.
@@ -306,13 +250,13 @@ pub fn save(block: &[u8], table: &[u32], out: &mut [u8]) -> Answer
 {
     let size = store_rows::rows::size_of(block.len());
     if !store_notes::sane(table, size) {
-        return Answer::Refused(Refusal::Table);
+        return Err(Refusal::Table);
     }
-    let n = store_rows::rows::wide(table[0]);
+    let n = table[0] as usize;
     let octets = store_text::text_octets(table, n, size);
     if out.len() < octets {
-        return Answer::Refused(Refusal::Room);
+        return Err(Refusal::Room);
     }
     let end = store_text::put_text(table, n, size, out);
-    Answer::Done(end, 0)
+    Ok((end, 0))
 }

@@ -8,7 +8,7 @@ use native.Mathlib.Omega.{arith}
 use lib.ListN.{length, replicate}
 use Rattle.store_rows.specs.Limits.{largest_block, size_of}
 use Rattle.settings.specs.declared.Settings.{Settings}
-use Rattle.settings.specs.declared.Given.TheVariants.{Is}
+use Rattle.std.specs.Prelude.{Some}
 use Rattle.settings.specs.Lines.{most_block, settings_in}
 use Rattle.settings.specs.Revisions.{Box, added, look_up, wiped}
 use Rattle.settings.specs.State.{rows_at, kept_of, box_of, laid}
@@ -39,7 +39,7 @@ saved-block cs v = ap block_in (saved-reads cs v)
 pub one-most : most_block ≡ largest_block
 one-most = refl
 
-pub said-block : (text : List ℕ) (v : Settings) → settings_in text ≡ Is v → (b : List ℕ) → length b ≡ v.block
+pub said-block : (text : List ℕ) (v : Settings) → settings_in text ≡ Some v → (b : List ℕ) → length b ≡ v.block
     → (1 ≤ size_of b) × (size_of b ≡ v.block)
 said-block text v e b l =
     let s = (settings-only text v e).0 in

@@ -13,8 +13,7 @@ use lib.Dec.{ltb}
 use borrow.Author.Tests.{lt-ltb, le-ltb, ltb-true, ltb-false}
 use Rattle.rules.proofs.Judged.{judged-ap}
 use Rattle.store_rows.specs.declared.rows.Row.{Row}
-use Rattle.store_rows.specs.declared.rows.Gap.{Gap}
-use Rattle.store_rows.specs.declared.rows.Gap.TheVariants.{At, Nowhere}
+use Rattle.std.proofs.Common.{Option, Some, None, Ok, Err}
 use Rattle.store_rows.specs.Limits.{size_of}
 use Rattle.store_rows.specs.Rows.{row_of, held}
 use Rattle.store_rows.specs.Finding.{find_from, gap_from, lowest_gap}
@@ -32,10 +31,8 @@ use Rattle.store_rows.proofs.Lists.{passed, both}
 use Rattle.store_rows.proofs.Rising.{rising-head}
 use Rattle.store_notes.proofs.Matched.{sane-noted}
 use Rattle.store_notes.proofs.Pairs.{sane-old}
-use Rattle.store_tell.specs.declared.Told.{Told}
-use Rattle.store_tell.specs.declared.Told.TheVariants.{Is, Refused}
 use Rattle.store_tell.specs.Tells.{tell_at, largest_from, largest_gap}
-use Rattle.store_tell.specs.Calls.{told_number_of, entry_in, sums_in, info_of, at_of, totals_for}
+use Rattle.store_tell.specs.Calls.{Told, told_number_of, entry_in, sums_in, info_of, at_of, totals_for}
 
 -- ---- what a get gives, the info tells
 
@@ -49,12 +46,12 @@ unfolding info_of get_in
 info-as-got b t x =
     let asks = find_order b t x in
     let i = find_from x 0 (rows_of t) in
-    let is = Is (tell_at (rows_of t) (notes_of t) i) in
+    let is : Told = Ok (tell_at (rows_of t) (notes_of t) i) in
     let got = leaves (gotten b (rows_of t) (notes_of t) (nth i (rows_of t))) in
     record {
-      ending = judged-ap told_number_of Refused is asks ∙ sym (judged-ap (λ o. number_of (answer_of o)) refused got asks);
-      start = judged-ap (λ r. (entry_in r).start) Refused is asks ∙ sym (judged-ap (λ o. first_of (answer_of o)) refused got asks);
-      octets = judged-ap (λ r. (entry_in r).octets) Refused is asks ∙ sym (judged-ap (λ o. second_of (answer_of o)) refused got asks);
+      ending = judged-ap told_number_of Err is asks ∙ sym (judged-ap (λ o. number_of (answer_of o)) refused got asks);
+      start = judged-ap (λ r. (entry_in r).start) Err is asks ∙ sym (judged-ap (λ o. first_of (answer_of o)) refused got asks);
+      octets = judged-ap (λ r. (entry_in r).octets) Err is asks ∙ sym (judged-ap (λ o. second_of (answer_of o)) refused got asks);
     }
 
 -- ---- all of them, by their places
@@ -70,7 +67,7 @@ told_from b t i (suc n) = row_in (at_of b t i) ∷ told_from b t (i + 1) n
 -- a table that calls leave
 pub record Lists (b t : List ℕ) : Type 0 where
   pub all : told_from b t 0 (length (rows_of t)) ≡ rows_of t
-  pub ends : (i : ℕ) → length (rows_of t) ≤ i → at_of b t i ≡ Refused Absent
+  pub ends : (i : ℕ) → length (rows_of t) ≤ i → at_of b t i ≡ Err Absent
   pub in_order : rising 1 0 (size_of b) (rows_of t) ≡ true
   pub each-once : numbered (rows_of t) ≡ true
 
@@ -127,10 +124,10 @@ totals-size b t s =
 
 -- ---- the largest gap
 
-pub record Found (g : Gap) : Type 0 where
+pub record Found (g : Option (ℕ × ℕ)) : Type 0 where
   pub below : ℕ
   pub place : ℕ
-  pub is : g ≡ At below place
+  pub is : g ≡ Some (below, place)
 
 -- a greeting of at most the largest gap's octets has a gap that holds it
 gap-found : (want size at i : ℕ) (rows : List Row) → 1 ≤ want → want ≤ largest_from size at rows → Found (gap_from want size at i rows)
@@ -141,24 +138,24 @@ gap-found want size at i (r ∷ rows) h g =
   where
     go : (x : Bool) → ltb r.start (at + want) ≡ x
         → (want ≤ largest_from size (r.start + r.octets) rows → Found (gap_from want size (r.start + r.octets) (i + 1) rows))
-        → Found (cond x (gap_from want size (r.start + r.octets) (i + 1) rows) (At i at))
+        → Found (cond x (gap_from want size (r.start + r.octets) (i + 1) rows) (Some (i, at)))
     go true e f = f (omega (arith, ltb-true r.start (at + want) e, g, h))
     go false e f = record { below = i; place = at; is = refl }
 
 -- a greeting that has a gap is at most as long as the largest
-gap_within : (want size at i : ℕ) (rows : List Row) {j s : ℕ} → gap_from want size at i rows ≡ At j s → want ≤ largest_from size at rows
+gap_within : (want size at i : ℕ) (rows : List Row) {j s : ℕ} → gap_from want size at i rows ≡ Some (j, s) → want ≤ largest_from size at rows
 unfolding gap_from largest_from
 gap_within want size at i [] e = go (ltb size (at + want)) refl e
   where
-    go : {j s : ℕ} (x : Bool) → ltb size (at + want) ≡ x → cond x Nowhere (At i at) ≡ At j s → want ≤ size - at
+    go : {j s : ℕ} (x : Bool) → ltb size (at + want) ≡ x → cond {A = Option (ℕ × ℕ)} x None (Some (i, at)) ≡ Some (j, s) → want ≤ size - at
     go true f e = let z : ◌≡◌ {A = ℕ} 0 1 = cc in absurd (omega arith)
     go false f e = omega (arith, ltb-false size (at + want) f)
 gap_within want size at i (r ∷ rows) e =
     go (ltb r.start (at + want)) refl (λ k u f. gap_within want size (r.start + r.octets) (i + 1) rows f) e
   where
     go : {j s : ℕ} (x : Bool) → ltb r.start (at + want) ≡ x
-        → ((k u : ℕ) → gap_from want size (r.start + r.octets) (i + 1) rows ≡ At k u → want ≤ largest_from size (r.start + r.octets) rows)
-        → cond x (gap_from want size (r.start + r.octets) (i + 1) rows) (At i at) ≡ At j s
+        → ((k u : ℕ) → gap_from want size (r.start + r.octets) (i + 1) rows ≡ Some (k, u) → want ≤ largest_from size (r.start + r.octets) rows)
+        → cond x (gap_from want size (r.start + r.octets) (i + 1) rows) (Some (i, at)) ≡ Some (j, s)
         → want ≤ max (r.start - at) (largest_from size (r.start + r.octets) rows)
     go true f deeper e = omega (arith, deeper _ _ e)
     go false f deeper e = omega (arith, ltb-false r.start (at + want) f)
@@ -184,7 +181,7 @@ module _ (b t : List ℕ) (law x : ℕ) (xs : List ℕ) {a : After} (e : put_of 
   gap-moves-none h =
       let k = put-fitted in
       let f = gap-found (length xs) (size_of b) 0 0 (rows_of t) (some-octets law xs k.0) h in
-      ap (λ (y : After). y.second) k.1 ∙ ap (λ (g : Gap). (put_at b (rows_of t) (notes_of t) law x xs g).second) f.is
+      ap (λ (y : After). y.second) k.1 ∙ ap (λ (g : Option (ℕ × ℕ)). (put_at b (rows_of t) (notes_of t) law x xs g).second) f.is
 
-pub gap-is-largest : (want size : ℕ) (rows : List Row) {j s : ℕ} → lowest_gap want size rows ≡ At j s → want ≤ largest_gap size rows
+pub gap-is-largest : (want size : ℕ) (rows : List Row) {j s : ℕ} → lowest_gap want size rows ≡ Some (j, s) → want ≤ largest_gap size rows
 gap-is-largest want size rows e = gap_within want size 0 0 rows e

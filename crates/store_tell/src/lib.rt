@@ -8,9 +8,9 @@ ghost use Rattle.store_rows.specs.Cells.{rows_of};
 ghost use Rattle.store_rows.specs.Sane.{Ordered};
 ghost use Rattle.store_notes.specs.Cells.{second_list, first_mark, notes_of};
 ghost use Rattle.store_tell.specs.Tells.{tell_at, largest_gap, totals_of};
-ghost use Rattle.store_tell.specs.Calls.{told_number_of, summed_number_of, entry_in, sums_in, info_of, at_of, totals_for};
+ghost use Rattle.store_tell.specs.Calls.{entry_in, sums_in, info_of, at_of, totals_for};
 
-use store::{Answer, Refusal};
+use store::Refusal;
 
 // A greeting: its number, where it starts, its octets; its law, its samples, and how many marks it has.
 #[derive(Clone, Copy)]
@@ -32,66 +32,33 @@ pub struct Sums {
     pub gap: usize,
 }
 
-#[derive(Clone, Copy)]
-pub enum Told {
-    Is(Entry),
-    Refused(Refusal),
-}
+pub type Told = Result<Entry, Refusal>;
 
-#[derive(Clone, Copy)]
-pub enum Summed {
-    Are(Sums),
-    Refused(Refusal),
-}
-
-// An accepted call has the number 0.
-pub fn told_number(t: Told) -> u32
-    ensures { result ≡ told_number_of t }
-{
-    match t {
-        Told::Is(_) => 0,
-        Told::Refused(why) => store::refusal_number(why),
-    }
-}
-
-pub fn summed_number(s: Summed) -> u32
-    ensures { result ≡ summed_number_of s }
-{
-    match s {
-        Summed::Are(_) => 0,
-        Summed::Refused(why) => store::refusal_number(why),
-    }
-}
+pub type Summed = Result<Sums, Refusal>;
 
 // What a call tells; a refused one reports zeros.
 pub fn entry_in(t: Told) -> Entry
     ensures { result ≡ entry_in t }
 {
-    match t {
-        Told::Is(i) => i,
-        Told::Refused(_) => Entry {
-            number: 0,
-            start: 0,
-            octets: 0,
-            law: 0,
-            samples: 0,
-            marks: 0,
-        },
-    }
+    t.unwrap_or(Entry {
+        number: 0,
+        start: 0,
+        octets: 0,
+        law: 0,
+        samples: 0,
+        marks: 0,
+    })
 }
 
 pub fn sums_in(s: Summed) -> Sums
     ensures { result ≡ sums_in s }
 {
-    match s {
-        Summed::Are(t) => t,
-        Summed::Refused(_) => Sums {
-            greetings: 0,
-            held: 0,
-            free: 0,
-            gap: 0,
-        },
-    }
+    s.unwrap_or(Sums {
+        greetings: 0,
+        held: 0,
+        free: 0,
+        gap: 0,
+    })
 }
 
 // The greeting at place i, "as they stand in the table".
@@ -116,14 +83,10 @@ fn tell(table: &[u32], i: usize) -> Entry
 pub fn info(block: &[u8], table: &[u32], number: u32) -> Told
     ensures { result ≡ info_of block.now table.now number }
 {
-    match store::get(block, table, number) {
-        Answer::Refused(why) => Told::Refused(why),
-        Answer::Done(_, _) => {
-            let n = store_rows::rows::wide(table[0]);
-            let x = store_rows::rows::wide(number);
-            Told::Is(tell(table, store_rows::rows::find(table, n, 0, x)))
-        }
-    }
+    store::get(block, table, number)?;
+    let n = table[0] as usize;
+    let i = store_rows::rows::find(table, n, number as usize).ok_or(Refusal::Absent)?;
+    Ok(tell(table, i))
 }
 
 // A greeting by its place in order of start: TABLE, ABSENT.
@@ -132,22 +95,13 @@ pub fn at(block: &[u8], table: &[u32], index: u64) -> Told
 {
     let size = store_rows::rows::size_of(block.len());
     if !store_notes::sane(table, size) {
-        return Told::Refused(Refusal::Table);
+        return Err(Refusal::Table);
     }
-    let n = store_rows::rows::wide(table[0]);
+    let n = table[0] as usize;
     if n as u64 <= index {
-        return Told::Refused(Refusal::Absent);
+        return Err(Refusal::Absent);
     }
-    Told::Is(tell(table, index as usize))
-}
-
-fn greater(a: usize, b: usize) -> usize
-    ensures { result ≡ max a b }
-{
-    if a < b {
-        return b;
-    }
-    a
+    Ok(tell(table, index as usize))
 }
 
 // The largest gap: before the first greeting, between two, and behind the last.
@@ -157,14 +111,11 @@ fn largest_gap(table: &[u32], n: usize, size: usize) -> usize
 {
     let mut at = 0;
     let mut best = 0;
-    let mut i = 0;
-    while i < n {
-        let r = store_rows::rows::row_at(table, 1 + store_rows::rows::ROW_CELLS * i);
-        best = greater(best, r.start - at);
+    for r in store_rows::rows::greetings(table, n) {
+        best = best.max(r.start - at);
         at = r.start + r.octets;
-        i += 1;
     }
-    greater(best, size - at)
+    best.max(size - at)
 }
 
 // How many, the octets held, the octets free, and the largest gap.
@@ -172,7 +123,7 @@ fn sum_up(table: &[u32], size: usize) -> Sums
     requires { Ordered size table.now × (size ≤ largest_block) }
     ensures { result ≡ totals_of size (rows_of table.now) }
 {
-    let n = store_rows::rows::wide(table[0]);
+    let n = table[0] as usize;
     let held = store_rows::rows::held(table, n, size);
     let gap = largest_gap(table, n, size);
     Sums {
@@ -189,7 +140,7 @@ pub fn totals(block: &[u8], table: &[u32]) -> Summed
 {
     let size = store_rows::rows::size_of(block.len());
     if !store_notes::sane(table, size) {
-        return Summed::Refused(Refusal::Table);
+        return Err(Refusal::Table);
     }
-    Summed::Are(sum_up(table, size))
+    Ok(sum_up(table, size))
 }

@@ -11,7 +11,7 @@ use Rattle.store_greeting.specs.Marks.{Mark, Note}
 use Rattle.text_keyvalue.specs.Reading.{Read, whole, none, and_then}
 use Rattle.text_keyvalue.specs.Lines.{line, ranged}
 use Rattle.text_keyvalue.proofs.Exact.{through, got-value}
-use Rattle.store_text.specs.declared.Next.TheVariants.{To, Astray}
+use Rattle.std.specs.Prelude.{Some, None}
 use Rattle.store_text.specs.Table.{prompt_word, start_word, octets_word, row}
 use Rattle.store_text.specs.Noted.{Listed, mark_lines, listed}
 use Rattle.store_text.specs.Passing.{head_of, headed, head_in, noted, next_of}
@@ -102,17 +102,17 @@ module _ (text : List ℕ) where
     listed-no-head e = sym (rw (listed-parts far at, ← e))
 
     module _ {r : Row} {l a : ℕ} (e : whole (head_of r l) a ≡ headed far text at) where
-      pub listed-astray : Astray ≡ next_of (noted l text a) → none ≡ head_in (listed far text at)
+      pub listed-astray : None ≡ next_of (noted l text a) → none ≡ head_in (listed far text at)
       listed-astray f = sym (rw (listed-parts far at, ← e) (go (noted l text a) f))
         where
-          go : (q : Read Note) → Astray ≡ next_of q → head_in (and_then q (λ n k. whole (with r n) k)) ≡ none
+          go : (q : Read Note) → None ≡ next_of q → head_in (and_then q (λ n k. whole (with r n) k)) ≡ none
           go (whole n k) f = let z : ◌≡◌ {A = ℕ} 0 1 = cc in absurd (omega arith)
           go none f = refl
 
-      pub listed-whole : {b : ℕ} → To b ≡ next_of (noted l text a) → whole (head_of r l) b ≡ head_in (listed far text at)
+      pub listed-whole : {b : ℕ} → Some b ≡ next_of (noted l text a) → whole (head_of r l) b ≡ head_in (listed far text at)
       listed-whole {b} f = sym (rw (listed-parts far at, ← e) (go (noted l text a) f (λ n j g. noted-law l a g)))
         where
-          go : (q : Read Note) → To b ≡ next_of q → ((n : Note) (j : ℕ) → q ≡ whole n j → n.law ≡ l)
+          go : (q : Read Note) → Some b ≡ next_of q → ((n : Note) (j : ℕ) → q ≡ whole n j → n.law ≡ l)
               → head_in (and_then q (λ n k. whole (with r n) k)) ≡ whole (head_of r l) b
           go (whole n k) f g =
               let z : b ≡ k = cc in

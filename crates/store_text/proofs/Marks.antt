@@ -15,8 +15,7 @@ use Rattle.store_notes.specs.Cells.{marks_in}
 use Rattle.text_keyvalue.specs.Reading.{Read, whole, none, and_then, begins, is_digit, digits_on, decimal_on, number, most, capped}
 use Rattle.text_keyvalue.specs.Lines.{line}
 use Rattle.text_keyvalue.proofs.Exact.{through, passed, got-value, got-place}
-use Rattle.store_text.specs.declared.Next.{Next}
-use Rattle.store_text.specs.declared.Next.TheVariants.{To, Astray}
+use Rattle.std.specs.Prelude.{Option, Some, None}
 use Rattle.store_text.specs.Noted.{mark_word, comma, mark_line, mark_lines_from, mark_lines}
 use Rattle.store_text.specs.Passing.{number_then, held_mark, next_of, noted, mark_is, no_mark, marks_are, samples_is, note_is}
 
@@ -221,11 +220,11 @@ module _ {text : List ℕ} {at i : ℕ} (s : Marking text at i) where
       let z : suc (length text) - length s.done ≡ suc (suc (length text) - (length s.done + 1)) = omega arith in
       rw z
 
-  pub marking-end : begins mark_word (drop i text) ≡ false → To i ≡ next_of (mark_lines text at)
+  pub marking-end : begins mark_word (drop i text) ≡ false → Some i ≡ next_of (mark_lines text at)
   marking-end e = sym (rw (s.left ∙ step, e))
 
   module _ (e : begins mark_word (drop i text) ≡ true) where
-    pub marking-stuck : none ≡ held_mark (mark_line text i) → Astray ≡ next_of (mark_lines text at)
+    pub marking-stuck : none ≡ held_mark (mark_line text i) → None ≡ next_of (mark_lines text at)
     marking-stuck f = sym (rw (s.left ∙ step, e, not-mark (mark_line text i) f))
 
     pub marking-turn : {o n j : ℕ} → i < length text → whole (mark_of o n) j ≡ held_mark (mark_line text i) → Marking text at j
@@ -250,11 +249,11 @@ next-same (whole ms k) f = refl
 next-same none f = refl
 
 module _ (text : List ℕ) (at law : ℕ) where
-  pub note-no-samples : none ≡ capped (line samples_word text at) → Astray ≡ next_of (noted law text at)
+  pub note-no-samples : none ≡ capped (line samples_word text at) → None ≡ next_of (noted law text at)
   unfolding noted
   note-no-samples e = sym (rw (no_number (line samples_word text at) e))
 
-  pub note-marks : {n a : ℕ} {r : Next} → whole n a ≡ capped (line samples_word text at) → r ≡ next_of (mark_lines text a)
+  pub note-marks : {n a : ℕ} {r : Option ℕ} → whole n a ≡ capped (line samples_word text at) → r ≡ next_of (mark_lines text a)
       → r ≡ next_of (noted law text at)
   unfolding noted
   note-marks {n} {a} {r} e f =
@@ -280,12 +279,12 @@ marks-all cells m = let e : m - 0 ≡ m = omega arith in rw e
 
 -- a mark beside a given one
 module _ (text : List ℕ) (i o s : ℕ) where
-  pub is-unmarked : none ≡ held_mark (mark_line text i) → Astray ≡ next_of (mark_is o s text i)
+  pub is-unmarked : none ≡ held_mark (mark_line text i) → None ≡ next_of (mark_is o s text i)
   unfolding mark_is
   is-unmarked e = sym (rw (not-mark (mark_line text i) e))
 
   module _ (a : o < most) (b : s < most) {x n nxt : ℕ} (e : whole (mark_of x n) nxt ≡ held_mark (mark_line text i)) where
-    pub is-octets : (x ≡ o → ⊥) → Astray ≡ next_of (mark_is o s text i)
+    pub is-octets : (x ≡ o → ⊥) → None ≡ next_of (mark_is o s text i)
     unfolding mark_is
     is-octets f =
         let q = held-mark (mark_line text i) e in
@@ -296,14 +295,14 @@ module _ (text : List ℕ) (i o s : ℕ) where
       same-octets : (held-mark (mark_line text i) e).real.octets ≡ o
       same-octets = let g = (held-mark (mark_line text i) e).octets in omega arith
 
-      pub is-samples : (n ≡ s → ⊥) → Astray ≡ next_of (mark_is o s text i)
+      pub is-samples : (n ≡ s → ⊥) → None ≡ next_of (mark_is o s text i)
       unfolding mark_is
       is-samples g =
           let q = held-mark (mark_line text i) e in
           let d : q.real.samples ≡ s → ⊥ = λ z. g (q.samples ∙ omega arith) in
           sym (rw (q.first, eq-eqb _ _ same-octets, ne_eqb _ _ d))
 
-      pub is-mark : n ≡ s → To nxt ≡ next_of (mark_is o s text i)
+      pub is-mark : n ≡ s → Some nxt ≡ next_of (mark_is o s text i)
       unfolding mark_is
       is-mark g =
           let q = held-mark (mark_line text i) e in
@@ -312,46 +311,46 @@ module _ (text : List ℕ) (i o s : ℕ) where
 
 -- no mark more
 module _ (text : List ℕ) (i : ℕ) where
-  pub is-more : begins mark_word (drop i text) ≡ true → Astray ≡ next_of (no_mark text i)
+  pub is-more : begins mark_word (drop i text) ≡ true → None ≡ next_of (no_mark text i)
   unfolding no_mark
   is-more e = sym (rw e)
 
-  pub is-end : begins mark_word (drop i text) ≡ false → To i ≡ next_of (no_mark text i)
+  pub is-end : begins mark_word (drop i text) ≡ false → Some i ≡ next_of (no_mark text i)
   unfolding no_mark
   is-end e = sym (rw e)
 
 -- what is compared in two steps
-then-astray : {A B : Type 0} (r : Read A) (f : A → ℕ → Read B) → Astray ≡ next_of r → Astray ≡ next_of (and_then r f)
+then-astray : {A B : Type 0} (r : Read A) (f : A → ℕ → Read B) → None ≡ next_of r → None ≡ next_of (and_then r f)
 then-astray (whole a i) f e = let z : ◌≡◌ {A = ℕ} 0 1 = cc in absurd (omega arith)
 then-astray none f e = refl
 
-then-on : (r : Read ℕ) (ms : List Mark) (text : List ℕ) {j : ℕ} → To j ≡ next_of r
+then-on : (r : Read ℕ) (ms : List Mark) (text : List ℕ) {j : ℕ} → Some j ≡ next_of r
     → next_of (and_then r (λ z k. marks_are ms text k)) ≡ next_of (marks_are ms text j)
 then-on (whole a i) ms text {j} e = let z : j ≡ i = cc in ap (λ (k : ℕ). next_of (marks_are ms text k)) (sym z)
 then-on none ms text e = let z : ◌≡◌ {A = ℕ} 0 1 = cc in absurd (omega arith)
 
 -- a mark, and those after it
 module _ (m : Mark) (ms : List Mark) (text : List ℕ) (i : ℕ) where
-  pub marks-astray : Astray ≡ next_of (mark_is m.octets m.samples text i) → Astray ≡ next_of (marks_are (m ∷ ms) text i)
+  pub marks-astray : None ≡ next_of (mark_is m.octets m.samples text i) → None ≡ next_of (marks_are (m ∷ ms) text i)
   unfolding marks_are
   marks-astray e = then-astray (mark_is m.octets m.samples text i) (λ z j. marks_are ms text j) e
 
-  pub marks-on : {j : ℕ} → To j ≡ next_of (mark_is m.octets m.samples text i)
+  pub marks-on : {j : ℕ} → Some j ≡ next_of (mark_is m.octets m.samples text i)
       → next_of (marks_are (m ∷ ms) text i) ≡ next_of (marks_are ms text j)
   unfolding marks_are
   marks-on e = then-on (mark_is m.octets m.samples text i) ms text e
 
-pub marks-done : (text : List ℕ) (i : ℕ) {r : Next} → r ≡ next_of (no_mark text i) → r ≡ next_of (marks_are [] text i)
+pub marks-done : (text : List ℕ) (i : ℕ) {r : Option ℕ} → r ≡ next_of (no_mark text i) → r ≡ next_of (marks_are [] text i)
 unfolding marks_are
 marks-done text i e = e
 
 -- samples, and the marks after them
 module _ (samples : ℕ) (ms : List Mark) (text : List ℕ) (i : ℕ) where
-  pub note-astray : Astray ≡ next_of (samples_is samples text i) → Astray ≡ next_of (note_is samples ms text i)
+  pub note-astray : None ≡ next_of (samples_is samples text i) → None ≡ next_of (note_is samples ms text i)
   unfolding note_is
   note-astray e = then-astray (samples_is samples text i) (λ z j. marks_are ms text j) e
 
-  pub note-on : {j : ℕ} → To j ≡ next_of (samples_is samples text i) → next_of (note_is samples ms text i) ≡ next_of (marks_are ms text j)
+  pub note-on : {j : ℕ} → Some j ≡ next_of (samples_is samples text i) → next_of (note_is samples ms text i) ≡ next_of (marks_are ms text j)
   unfolding note_is
   note-on e = then-on (samples_is samples text i) ms text e
 
@@ -363,7 +362,7 @@ pub compares-first : (text : List ℕ) (at : ℕ) (cells : List ℕ) (m : ℕ) �
 compares-first text at cells m = record { says = ap (λ (l : List Mark). next_of (marks_are l text at)) (marks-all cells m) }
 
 module _ {text cells : List ℕ} {at m i j : ℕ} (s : Compares text at cells m i j) where
-  pub are-end : m ≤ j → {r : Next} → r ≡ next_of (no_mark text i) → r ≡ next_of (marks_are (marks_in m cells) text at)
+  pub are-end : m ≤ j → {r : Option ℕ} → r ≡ next_of (no_mark text i) → r ≡ next_of (marks_are (marks_in m cells) text at)
   are-end h e = marks-done text i e ∙ sym (s.says ∙ ap (λ (l : List Mark). next_of (marks_are l text i)) (marks-none cells m j h))
 
   module _ (h : j < m) {x y : ℕ} (f : x ≡ get_or cells (2 * j) 0) (g : y ≡ get_or cells (2 * j + 1) 0) where
@@ -376,27 +375,27 @@ module _ {text cells : List ℕ} {at m i j : ℕ} (s : Compares text at cells m 
         (marks-step cells m j h ∙ ap (λ (k : ℕ). mark_of k (get_or cells (2 * j + 1) 0) ∷ more) (sym f)
         ∙ ap (λ (k : ℕ). mark_of x k ∷ more) (sym g))
 
-    pub are-astray : Astray ≡ next_of (mark_is x y text i) → Astray ≡ next_of (marks_are (marks_in m cells) text at)
+    pub are-astray : None ≡ next_of (mark_is x y text i) → None ≡ next_of (marks_are (marks_in m cells) text at)
     are-astray e = marks-astray (mark_of x y) more text i e ∙ sym are-step
 
-    pub are-turn : {nxt : ℕ} → To nxt ≡ next_of (mark_is x y text i) → Compares text at cells m nxt (j + 1)
+    pub are-turn : {nxt : ℕ} → Some nxt ≡ next_of (mark_is x y text i) → Compares text at cells m nxt (j + 1)
     are-turn e = record { says = are-step ∙ marks-on (mark_of x y) more text i e }
 
 -- samples beside given ones
 module _ (text : List ℕ) (at samples : ℕ) where
-  pub is_none : none ≡ capped (line samples_word text at) → Astray ≡ next_of (samples_is samples text at)
+  pub is_none : none ≡ capped (line samples_word text at) → None ≡ next_of (samples_is samples text at)
   unfolding samples_is
   is_none e = sym (rw (no_number (line samples_word text at) e))
 
   module _ {n a : ℕ} (small : samples < most) (e : whole n a ≡ capped (line samples_word text at)) where
-    pub is-other : (n ≡ samples → ⊥) → Astray ≡ next_of (samples_is samples text at)
+    pub is-other : (n ≡ samples → ⊥) → None ≡ next_of (samples_is samples text at)
     unfolding samples_is
     is-other f =
         let h = number-held (line samples_word text at) e in
         let d : h.real ≡ samples → ⊥ = λ x. f (h.held ∙ omega arith) in
         sym (rw (h.first, ne_eqb _ _ d))
 
-    pub is_same : n ≡ samples → To a ≡ next_of (samples_is samples text at)
+    pub is_same : n ≡ samples → Some a ≡ next_of (samples_is samples text at)
     unfolding samples_is
     is_same f =
         let h = number-held (line samples_word text at) e in

@@ -11,7 +11,7 @@ use Rattle.store_rows.specs.declared.rows.Row.{Row}
 use Rattle.store_greeting.specs.Marks.{Note}
 use Rattle.text_keyvalue.specs.Reading.{Read, whole, none, and_then}
 use Rattle.text_keyvalue.proofs.Exact.{got-value, got-place}
-use Rattle.store_text.specs.declared.Count.TheVariants.{Greetings, Wrong}
+use Rattle.std.specs.Prelude.{Some, None}
 use Rattle.store_text.specs.Noted.{Listed, listed, listed_from, listed_at, rows_listed, listing}
 use Rattle.store_text.specs.Fills.{PutsRow, FillsNoted, laws_listed}
 use Rattle.store_text.specs.Passing.{Headed, head_of, head_in}
@@ -61,7 +61,7 @@ unfolding rows_listed laws_listed
 noting-first far from text cells laws =
     record { done = []; count = refl; few = omega arith; left = refl; rows = rowed-first cells; lawful = refl; rest = refl }
 
-wrong : {found : Read (List Listed)} → found ≡ none → (cells cells' laws laws' : List ℕ) → FillsNoted found cells cells' laws laws' Wrong
+wrong : {found : Read (List Listed)} → found ≡ none → (cells cells' laws laws' : List ℕ) → FillsNoted found cells cells' laws laws' None
 wrong e cells cells' laws laws' = rw e (record { count = refl; filled = tt; few = λ n q. no-count q })
 
 -- a greeting's lines, as the code keeps them
@@ -94,21 +94,21 @@ laws-turn laws₀ laws k law h e =
 
 module _ {far from : ℕ} {text cells₀ cells laws₀ laws : List ℕ} {k at : ℕ} (s : Noting far from text cells₀ cells laws₀ laws k at) where
   pub noting-end : 97 ≤ length cells₀ → length text ≤ at → FillsNoted (listed_at far from text) cells₀ (set cells 0 k)
-      laws₀ laws (Greetings k)
+      laws₀ laws (Some k)
   noting-end l h =
       let e : listed_at far from text ≡ whole s.done at = s.left ∙ noted-ending far (32 - k) s.done text at h in
       let c = rowed-laid cells₀ (omega arith) (length-rows-listed s.done ∙ s.count) s.rows in
       let w : laws ≡ laws_listed s.done ++ drop (length s.done) laws₀ = sym (take-append-drop k laws)
       ∙ rw (s.lawful, s.rest, s.count) in
       rw e (record {
-        count = ap Greetings (sym s.count);
+        count = ap Some (sym s.count);
         filled = (c, w);
         few = λ n q. let z : k ≡ n = cc in
             let f = s.few in omega arith;
       })
 
   pub noting-full : (cells' laws' : List ℕ) → at < length text → k ≡ 32
-      → FillsNoted (listed_at far from text) cells₀ cells' laws₀ laws' Wrong
+      → FillsNoted (listed_at far from text) cells₀ cells' laws₀ laws' None
   unfolding listed_from
   noting-full cells' laws' h n =
       let z : 32 - k ≡ 0 = omega arith in
@@ -121,7 +121,7 @@ module _ {far from : ℕ} {text cells₀ cells laws₀ laws : List ℕ} {k at : 
     step = let f = s.few in let z : 32 - k ≡ suc (32 - (k + 1)) = omega arith in rw (z, lt-leb (length text) at h)
 
     pub noting-none : (cells' laws' : List ℕ) → none ≡ head_in (listed far text at)
-        → FillsNoted (listed_at far from text) cells₀ cells' laws₀ laws' Wrong
+        → FillsNoted (listed_at far from text) cells₀ cells' laws₀ laws' None
     noting-none cells' laws' e = wrong (s.left ∙ step ∙ rw (not_listed (listed far text at) e)) cells₀ cells' laws₀ laws'
 
     pub noting-turn : {cells' : List ℕ} {r : Row} {law j : ℕ} → k < length laws → whole (head_of r law) j ≡ head_in (listed far text at)

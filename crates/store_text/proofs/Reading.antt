@@ -10,7 +10,7 @@ use Rattle.rules.proofs.Lent.{drop-further}
 use Rattle.store_rows.specs.declared.rows.Row.{Row}
 use Rattle.store_rows.specs.Cells.{cells_of, laid}
 use Rattle.text_keyvalue.specs.Reading.{Read, whole, none, and_then}
-use Rattle.store_text.specs.declared.Count.TheVariants.{Greetings, Wrong}
+use Rattle.std.specs.Prelude.{Some, None}
 use Rattle.store_text.specs.Table.{most_place, row, rows_from, table_in}
 use Rattle.store_text.specs.Fills.{PutsRow, Fills}
 use Rattle.store_rows.proofs.Cells.{cells-snoc}
@@ -80,23 +80,23 @@ pub record Stand (text cells₀ cells : List ℕ) (k at : ℕ) : Type 0 where
 pub stand-first : (text cells : List ℕ) → Stand text cells cells 0 0
 stand-first text cells = record { done = []; count = refl; few = omega arith; left = refl; rows = rowed-first cells }
 
-pub no-count : {n : ℕ} → Wrong ≡ Greetings n → n ≤ 32
+pub no-count : {n : ℕ} → None ≡ Some n → n ≤ 32
 no-count q = let z : ◌≡◌ {A = ℕ} 0 1 = cc in absurd (omega arith)
 
-wrong : {found : Read (List Row)} → found ≡ none → (cells cells' : List ℕ) → Fills found cells cells' Wrong
+wrong : {found : Read (List Row)} → found ≡ none → (cells cells' : List ℕ) → Fills found cells cells' None
 wrong e cells cells' = rw e (record { count = refl; filled = tt; few = λ n q. no-count q })
 
 module _ {text cells₀ cells : List ℕ} {k at : ℕ} (s : Stand text cells₀ cells k at) where
-  pub stand-end : 97 ≤ length cells₀ → length text ≤ at → Fills (table_in text) cells₀ (set cells 0 k) (Greetings k)
+  pub stand-end : 97 ≤ length cells₀ → length text ≤ at → Fills (table_in text) cells₀ (set cells 0 k) (Some k)
   stand-end l h =
       let e : table_in text ≡ whole s.done at = s.left ∙ ending (32 - k) s.done text at h in
       rw e (record {
-        count = ap Greetings (sym s.count);
+        count = ap Some (sym s.count);
         filled = rowed-laid cells₀ (omega arith) s.count s.rows;
         few = λ n q. let z : k ≡ n = cc in let f = s.few in omega arith;
       })
 
-  pub stand-full : (cells' : List ℕ) → at < length text → k ≡ 32 → Fills (table_in text) cells₀ cells' Wrong
+  pub stand-full : (cells' : List ℕ) → at < length text → k ≡ 32 → Fills (table_in text) cells₀ cells' None
   unfolding rows_from
   stand-full cells' h n =
       let z : 32 - k ≡ 0 = omega arith in
@@ -108,7 +108,7 @@ module _ {text cells₀ cells : List ℕ} {k at : ℕ} (s : Stand text cells₀ 
     unfolding rows_from
     step = let f = s.few in let z : 32 - k ≡ suc (32 - (k + 1)) = omega arith in rw (z, lt-leb (length text) at h)
 
-    pub stand-none : (cells' : List ℕ) → none ≡ row most_place text at → Fills (table_in text) cells₀ cells' Wrong
+    pub stand-none : (cells' : List ℕ) → none ≡ row most_place text at → Fills (table_in text) cells₀ cells' None
     stand-none cells' e = wrong (s.left ∙ step ∙ rw (← e)) cells₀ cells'
 
     pub stand-turn : {cells' : List ℕ} {r : Row} {j : ℕ} → whole r j ≡ row most_place text at → PutsRow r (1 + 3 * k) cells cells'

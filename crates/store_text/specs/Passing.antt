@@ -1,20 +1,16 @@
 -- R-8's lines in the code's steps: a greeting's row and law, then its samples and marks; passed over first, and compared when the whole
 -- table is read.
-use Rattle.std.specs.Prelude.{ℕ, min, List, [], ◌∷◌, cond, drop, eqb}
+use Rattle.std.specs.Prelude.{ℕ, min, List, [], ◌∷◌, cond, drop, eqb, Option, Some, None}
 use Rattle.rules.specs.Tools.{most_law}
 use Rattle.rules.specs.Listing.{law_word, samples_word}
 use Rattle.store_rows.specs.declared.rows.Row.{Row}
-use Rattle.store_rows.specs.Rows.{row_of}
 use Rattle.text_keyvalue.specs.Reading.{Read, whole, none, Reader, and_then, ◌>>=◌, give, begins, after, number, most}
 use Rattle.text_keyvalue.specs.Lines.{line, ranged}
 use Rattle.store_greeting.specs.Marks.{Mark, Note, mark_of}
 use Rattle.store_text.specs.declared.Head.{Head}
-use Rattle.store_text.specs.declared.Head.TheVariants.{Begun, Missing}
 use Rattle.store_text.specs.declared.Marked.{Marked}
-use Rattle.store_text.specs.declared.Marked.TheVariants.{There, Unmarked}
-use Rattle.store_text.specs.declared.Next.{Next}
-use Rattle.store_text.specs.declared.Next.TheVariants.{To, Astray}
 use Rattle.store_text.specs.Table.{row}
+use Rattle.store_text.specs.Fills.{line_row}
 use Rattle.store_text.specs.Noted.{Listed, mark_word, mark_line, mark_lines}
 
 -- the lines up to the law
@@ -43,9 +39,9 @@ abbrev pub head_in : Read Listed → Read Headed
 head_in (whole x i) = whole (head_of x.row x.note.law) i
 head_in none = none
 
-abbrev pub as_head : Head → Read Headed
-as_head (Begun number start octets law next) = whole (head_of (row_of number start octets) law) next
-as_head Missing = none
+abbrev pub as_head : Option (Head × ℕ) → Read Headed
+as_head (Some (h, next)) = whole (head_of (line_row h.line) h.law) next
+as_head None = none
 
 -- a number, and a word after it
 unfoldable pub number_then : List ℕ → Reader ℕ
@@ -56,13 +52,13 @@ abbrev pub held_mark : Read Mark → Read Mark
 held_mark (whole m i) = whole (mark_of (min m.octets most) (min m.samples most)) i
 held_mark none = none
 
-abbrev pub as_mark : Marked → Read Mark
-as_mark (There octets samples next) = whole (mark_of octets samples) next
-as_mark Unmarked = none
+abbrev pub as_mark : Option (Marked × ℕ) → Read Mark
+as_mark (Some (m, next)) = whole (mark_of m.octets m.samples) next
+as_mark None = none
 
-abbrev pub next_of : {A : Type 0} → Read A → Next
-next_of (whole a i) = To i
-next_of none = Astray
+abbrev pub next_of : {A : Type 0} → Read A → Option ℕ
+next_of (whole a i) = Some i
+next_of none = None
 
 -- this mark
 unfoldable pub mark_is : ℕ → ℕ → Reader ℕ

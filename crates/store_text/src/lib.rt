@@ -16,47 +16,33 @@ ghost use Rattle.store_text.specs.Passing.{headed, noted, head_in, as_head, numb
 ghost use Rattle.store_text.specs.Passing.{next_of, mark_is, no_mark, marks_are, samples_is};
 ghost use Rattle.store_text.specs.Held.{mark_at, note_at, held_in, held_of, NoteIn, AllIn, TextIn};
 
-use text_keyvalue::Told;
-
-// A greeting's number, start and octets, and the next place; or the lines are not of this form.
+// A greeting's lines: its number, start and octets.
 #[derive(Clone, Copy)]
-pub enum Line {
-    Here(u32, u32, u32, usize),
-    Nothing,
+pub struct Line {
+    pub number: u32,
+    pub start: u32,
+    pub octets: u32,
 }
 
-// How many greetings a text lists; or it is no table.
-#[derive(Drop)]
-pub enum Count {
-    Greetings(usize),
-    Wrong,
-}
-
-// A greeting's number, start, octets and law, and the next place; or the lines are not of this form.
+// Those and the law's line.
 #[derive(Clone, Copy)]
-pub enum Head {
-    Begun(u32, u32, u32, u32, usize),
-    Missing,
+pub struct Head {
+    pub line: Line,
+    pub law: u32,
 }
 
-// A mark's octets and samples, and the next place; or the line is not of this form.
-#[derive(Drop)]
-pub enum Marked {
-    There(u32, u32, usize),
-    Unmarked,
-}
-
-// The next place; or the lines are not of this form.
-#[derive(Drop)]
-pub enum Next {
-    To(usize),
-    Astray,
+// A mark's line: its octets and samples.
+#[derive(Clone, Copy)]
+pub struct Marked {
+    pub octets: u32,
+    pub samples: u32,
 }
 
 // "without it, a start or octet count above 65,535 is TABLE"; with it, any that a block has may stand there.
 pub const MOST_PLACE: u32 = 65535;
 
 // Where a text's greetings begin, and the greatest start or count of octets that its lines may say.
+// Two numbers that travel together, and no switch.
 #[derive(Clone, Copy)]
 pub struct Form {
     pub from: usize,
@@ -68,173 +54,138 @@ pub fn form_of(text: &[u8]) -> Form
     ensures { result ≡ form_of text.now }
 {
     if text_keyvalue::has_word(text, 0, b"form=2\n") {
-        return Form {
+        Form {
             from: 7,
             most: store_rows::rows::LARGEST_BLOCK as u32,
-        };
-    }
-    Form {
-        from: 0,
-        most: MOST_PLACE,
+        }
+    } else {
+        Form {
+            from: 0,
+            most: MOST_PLACE,
+        }
     }
 }
 
-// "for each greeting `prompt`, `start`, `octets`".
-fn line_of(text: &[u8], at: usize, most: u32) -> Line
+// "for each greeting `prompt`, `start`, `octets`", and the next place; None where the lines are not of this form.
+fn line_of(text: &[u8], at: usize, most: u32) -> Option<(Line, usize)>
     requires { most ≤ largest_block }
     ensures { as_row result ≡ row most text.now at }
 {
-    match text_keyvalue::ranged_line(
-        text,
-        at,
-        b"prompt=",
-        1,
-        store_rows::rows::MOST_NUMBER as u32,
-    ) {
-        Told::Not => Line::Nothing,
-        Told::Got(number, a) => match text_keyvalue::ranged_line(text, a, b"start=", 0, most) {
-            Told::Not => Line::Nothing,
-            Told::Got(start, b) => match text_keyvalue::ranged_line(text, b, b"octets=", 0, most) {
-                Told::Not => Line::Nothing,
-                Told::Got(octets, c) => Line::Here(number, start, octets, c),
-            },
+    let most_number = store_rows::rows::MOST_NUMBER as u32;
+    let (number, a) = text_keyvalue::ranged_line(text, at, b"prompt=", 1, most_number)?;
+    let (start, b) = text_keyvalue::ranged_line(text, a, b"start=", 0, most)?;
+    let (octets, c) = text_keyvalue::ranged_line(text, b, b"octets=", 0, most)?;
+    Some((
+        Line {
+            number,
+            start,
+            octets,
         },
-    }
+        c,
+    ))
 }
 
 // Three cells from a place on.
-fn put_cells(cells: &mut [u32], k: usize, number: u32, start: u32, octets: u32)
+fn put_cells(cells: &mut [u32], k: usize, line: Line)
     requires { k + row_cells ≤ length cells.old }
-    ensures { PutsRow (row_of number start octets) k cells.old cells.new }
+    ensures { PutsRow (row_of line.number line.start line.octets) k cells.old cells.new }
 {
-    cells[k] = number;
-    cells[k + 1] = start;
-    cells[k + 2] = octets;
+    cells[k] = line.number;
+    cells[k + 1] = line.start;
+    cells[k + 2] = line.octets;
 }
 
-// The greetings that a text lists, into a lent table; "more than 32 greetings" are none. What is refused leaves it in any state.
-pub fn read_rows(text: &[u8], cells: &mut [u32]) -> Count
+// The greetings that a text lists, into a lent table, and how many they are; "more than 32 greetings" are none. What is refused leaves it
+// in any state.
+// The loop goes on where a greeting's lines ended, and counts no index of the text.
+pub fn read_rows(text: &[u8], cells: &mut [u32]) -> Option<usize>
     requires { list_cells ≤ length cells.old }
     ensures { Fills (table_in text.now) cells.old cells.new result }
 {
     let mut k = 0;
     let mut at = 0;
     while at < text.len() {
-        if k == 32 {
-            return Count::Wrong;
+        if k == store_rows::rows::MOST_GREETINGS {
+            return None;
         }
-        match line_of(text, at, MOST_PLACE) {
-            Line::Nothing => {
-                return Count::Wrong;
-            }
-            Line::Here(number, start, octets, next) => {
-                put_cells(
-                    cells,
-                    1 + store_rows::rows::ROW_CELLS * k,
-                    number,
-                    start,
-                    octets,
-                );
-                k += 1;
-                at = next;
-            }
-        }
+        let (line, next) = line_of(text, at, MOST_PLACE)?;
+        put_cells(cells, 1 + store_rows::rows::ROW_CELLS * k, line);
+        k += 1;
+        at = next;
     }
     cells[0] = k as u32;
-    Count::Greetings(k)
+    Some(k)
 }
 
 // "prompt", "start", "octets", and "law": what of a greeting's lines the first pass keeps. "A law above 1 .. is TABLE".
-pub fn head_at(text: &[u8], at: usize, most: u32) -> Head
+pub fn head_at(text: &[u8], at: usize, most: u32) -> Option<(Head, usize)>
     requires { most ≤ largest_block }
     ensures { as_head result ≡ headed most text.now at }
 {
-    match line_of(text, at, most) {
-        Line::Nothing => Head::Missing,
-        Line::Here(number, start, octets, a) => match text_keyvalue::ranged_line(
-            text, a, b"law=", 0, 1,
-        ) {
-            Told::Not => Head::Missing,
-            Told::Got(law, b) => Head::Begun(number, start, octets, law, b),
-        },
-    }
+    let (line, a) = line_of(text, at, most)?;
+    let (law, b) = text_keyvalue::ranged_line(text, a, b"law=", 0, 1)?;
+    Some((Head { line, law }, b))
 }
 
 // A number, and a word after it.
-fn number_then(text: &[u8], at: usize, word: &[u8]) -> Told
+fn number_then(text: &[u8], at: usize, word: &[u8]) -> Option<(u32, usize)>
     ensures { as_read result ≡ capped (number_then word.now text.now at) }
 {
-    match text_keyvalue::number_at(text, at) {
-        Told::Not => Told::Not,
-        Told::Got(n, end) => {
-            if !text_keyvalue::has_word(text, end, word) {
-                return Told::Not;
-            }
-            Told::Got(n, end + word.len())
-        }
+    let (n, end) = text_keyvalue::number_at(text, at)?;
+    if text_keyvalue::has_word(text, end, word) {
+        Some((n, end + word.len()))
+    } else {
+        None
     }
 }
 
 // "one `mark` per mark, as octets, a comma and samples"; numbers of any number of digits.
-fn mark_at(text: &[u8], at: usize) -> Marked
+fn mark_at(text: &[u8], at: usize) -> Option<(Marked, usize)>
     ensures { as_mark result ≡ held_mark (mark_line text.now at) }
 {
     if !text_keyvalue::has_word(text, at, b"mark=") {
-        return Marked::Unmarked;
+        return None;
     }
-    match number_then(text, at + 5, b",") {
-        Told::Not => Marked::Unmarked,
-        Told::Got(octets, a) => match number_then(text, a, b"\n") {
-            Told::Not => Marked::Unmarked,
-            Told::Got(samples, b) => Marked::There(octets, samples, b),
-        },
-    }
+    let (octets, a) = number_then(text, at + 5, b",")?;
+    let (samples, b) = number_then(text, a, b"\n")?;
+    Some((Marked { octets, samples }, b))
 }
 
 // Past a greeting's marks, as many as there are.
-fn marks_past(text: &[u8], at: usize) -> Next
+// The loop goes on where a line ended, and counts no index.
+fn marks_past(text: &[u8], at: usize) -> Option<usize>
     ensures { result ≡ next_of (mark_lines text.now at) }
 {
     let mut i = at;
     while text_keyvalue::has_word(text, i, b"mark=") {
-        match mark_at(text, i) {
-            Marked::Unmarked => {
-                return Next::Astray;
-            }
-            Marked::There(_, _, next) => {
-                i = next;
-            }
-        }
+        let (_, next) = mark_at(text, i)?;
+        i = next;
     }
-    Next::To(i)
+    Some(i)
 }
 
 // Past a greeting's samples and marks: what they say is judged when the whole table is read.
-fn note_past(text: &[u8], at: usize, law: u32) -> Next
+fn note_past(text: &[u8], at: usize, law: u32) -> Option<usize>
     ensures { result ≡ next_of (noted law text.now at) }
 {
-    match text_keyvalue::line_at(text, at, b"samples=") {
-        Told::Not => Next::Astray,
-        Told::Got(_, a) => marks_past(text, a),
-    }
+    let (_, a) = text_keyvalue::line_at(text, at, b"samples=")?;
+    marks_past(text, a)
 }
 
 // A greeting's lines, of which its row and its law are kept.
-fn listed_at(text: &[u8], at: usize, most: u32) -> Head
+fn listed_at(text: &[u8], at: usize, most: u32) -> Option<(Head, usize)>
     requires { most ≤ largest_block }
     ensures { as_head result ≡ head_in (listed most text.now at) }
 {
-    match head_at(text, at, most) {
-        Head::Missing => Head::Missing,
-        Head::Begun(number, start, octets, law, a) => match note_past(text, a, law) {
-            Next::Astray => Head::Missing,
-            Next::To(b) => Head::Begun(number, start, octets, law, b),
-        },
-    }
+    let (head, a) = head_at(text, at, most)?;
+    let b = note_past(text, a, head.law)?;
+    Some((head, b))
 }
 
 // The greetings that a text of R-8's lines lists, in a form, into a lent table, and their laws. What is refused leaves them in any state.
-pub fn read_noted(text: &[u8], form: Form, cells: &mut [u32], laws: &mut [u32]) -> Count
+// Apart from read_rows: a greeting's lines are others there (specs Table and Noted), and no laws are kept.
+// The loop goes on where a greeting's lines ended, as there.
+pub fn read_noted(text: &[u8], form: Form, cells: &mut [u32], laws: &mut [u32]) -> Option<usize>
     requires { (form.most ≤ largest_block) × (list_cells ≤ length cells.old) × (32 ≤ length laws.old) }
     ensures { FillsNoted (listed_at form.most form.from text.now) cells.old cells.new
         laws.old laws.new result }
@@ -242,100 +193,62 @@ pub fn read_noted(text: &[u8], form: Form, cells: &mut [u32], laws: &mut [u32]) 
     let mut k = 0;
     let mut at = form.from;
     while at < text.len() {
-        if k == 32 {
-            return Count::Wrong;
+        if k == store_rows::rows::MOST_GREETINGS {
+            return None;
         }
-        match listed_at(text, at, form.most) {
-            Head::Missing => {
-                return Count::Wrong;
-            }
-            Head::Begun(number, start, octets, law, next) => {
-                put_cells(
-                    cells,
-                    1 + store_rows::rows::ROW_CELLS * k,
-                    number,
-                    start,
-                    octets,
-                );
-                laws[k] = law;
-                k += 1;
-                at = next;
-            }
-        }
+        let (head, next) = listed_at(text, at, form.most)?;
+        put_cells(cells, 1 + store_rows::rows::ROW_CELLS * k, head.line);
+        laws[k] = head.law;
+        k += 1;
+        at = next;
     }
     cells[0] = k as u32;
-    Count::Greetings(k)
+    Some(k)
 }
 
 // The mark of a text beside a given one; the next place where they are the same. 4,294,967,295 would stand for more.
-pub fn mark_is(text: &[u8], at: usize, octets: usize, samples: usize) -> Next
+pub fn mark_is(text: &[u8], at: usize, octets: usize, samples: usize) -> Option<usize>
     requires { (octets < most) × (samples < most) }
     ensures { result ≡ next_of (mark_is octets samples text.now at) }
 {
-    match mark_at(text, at) {
-        Marked::Unmarked => Next::Astray,
-        Marked::There(o, s, next) => {
-            if store_rows::rows::wide(o) != octets {
-                return Next::Astray;
-            }
-            if store_rows::rows::wide(s) != samples {
-                return Next::Astray;
-            }
-            Next::To(next)
-        }
+    let (mark, next) = mark_at(text, at)?;
+    if mark.octets as usize == octets && mark.samples as usize == samples {
+        Some(next)
+    } else {
+        None
     }
 }
 
 // No mark more.
-pub fn no_mark(text: &[u8], at: usize) -> Next
+pub fn no_mark(text: &[u8], at: usize) -> Option<usize>
     ensures { result ≡ next_of (no_mark text.now at) }
 {
     if text_keyvalue::has_word(text, at, b"mark=") {
-        return Next::Astray;
+        None
+    } else {
+        Some(at)
     }
-    Next::To(at)
 }
 
 // The marks of a text beside m marks in cells, one by one.
-pub fn marks_are(text: &[u8], at: usize, marks: &[u32], m: usize) -> Next
+pub fn marks_are(text: &[u8], at: usize, marks: &[u32], m: usize) -> Option<usize>
     requires { (2 * m ≤ length marks.now) × ((j : ℕ) → j < 2 * m → get_or marks.now j 0 < most) }
     ensures { result ≡ next_of (marks_are (marks_in m marks.now) text.now at) }
 {
     let mut i = at;
-    let mut j = 0;
-    while j < m {
-        match mark_is(
-            text,
-            i,
-            store_rows::rows::wide(marks[2 * j]),
-            store_rows::rows::wide(marks[2 * j + 1]),
-        ) {
-            Next::Astray => {
-                return Next::Astray;
-            }
-            Next::To(next) => {
-                i = next;
-                j += 1;
-            }
-        }
+    for j in 0..m {
+        i = mark_is(text, i, marks[2 * j] as usize, marks[2 * j + 1] as usize)?;
     }
     no_mark(text, i)
 }
 
 // "samples .. that the walk doesn't give": those of a text beside those that are given; the place of the marks.
-pub fn samples_are(text: &[u8], at: usize, samples: usize) -> Next
+pub fn samples_are(text: &[u8], at: usize, samples: usize) -> Option<usize>
     requires { samples < most }
     ensures { result ≡ next_of (samples_is samples text.now at) }
 {
-    match text_keyvalue::line_at(text, at, b"samples=") {
-        Told::Not => Next::Astray,
-        Told::Got(n, a) => {
-            if store_rows::rows::wide(n) != samples {
-                return Next::Astray;
-            }
-            Next::To(a)
-        }
-    }
+    let (n, a) = text_keyvalue::line_at(text, at, b"samples=")?;
+    if n as usize == samples { Some(a) } else { None }
 }
 
 // How many octets a greeting's three lines are.
@@ -365,7 +278,7 @@ fn mark_octets(cells: &[u32], k: usize) -> usize
     ensures value { result ≡ length (mark_text (mark_at cells.now k)) }
     ensures most { result ≤ 27 }
 {
-    let a = text_lines::digits(store_rows::rows::wide(cells[k]));
+    let a = text_lines::digits(cells[k] as usize);
     let b = text_keyvalue::line_octets(b",", cells[k + 1]);
     5 + a + b
 }
@@ -375,7 +288,7 @@ fn put_mark(cells: &[u32], k: usize, out: &mut [u8], at: usize) -> usize
     ensures { Puts out.old at (mark_text (mark_at cells.now k)) out.new result }
 {
     let a = text_lines::put_word(b"mark=", out, at);
-    let b = text_lines::put_number(store_rows::rows::wide(cells[k]), out, a);
+    let b = text_lines::put_number(cells[k] as usize, out, a);
     text_keyvalue::put_line(b",", cells[k + 1], out, b)
 }
 
@@ -386,11 +299,8 @@ fn marks_octets(cells: &[u32], m: usize) -> usize
     ensures most { result ≤ 27 * m }
 {
     let mut sum = 0;
-    let mut j = 0;
-    while j < m {
-        let more = mark_octets(cells, 2 * j);
-        sum += more;
-        j += 1;
+    for j in 0..m {
+        sum += mark_octets(cells, 2 * j);
     }
     sum
 }
@@ -400,10 +310,8 @@ fn put_marks(cells: &[u32], m: usize, out: &mut [u8], at: usize) -> usize
     ensures { Puts out.old at (marks_text (marks_in m cells.now)) out.new result }
 {
     let mut end = at;
-    let mut j = 0;
-    while j < m {
+    for j in 0..m {
         end = put_mark(cells, 2 * j, out, end);
-        j += 1;
     }
     end
 }
@@ -416,7 +324,7 @@ fn note_octets(heads: &[u32], k: usize, cells: &[u32]) -> usize
 {
     let a = text_keyvalue::line_octets(b"law=", heads[k]);
     let b = text_keyvalue::line_octets(b"samples=", heads[k + 1]);
-    let c = marks_octets(cells, store_rows::rows::wide(heads[k + 2]));
+    let c = marks_octets(cells, heads[k + 2] as usize);
     a + b + c
 }
 
@@ -426,7 +334,7 @@ fn put_note(heads: &[u32], k: usize, cells: &[u32], out: &mut [u8], at: usize) -
 {
     let a = text_keyvalue::put_line(b"law=", heads[k], out, at);
     let b = text_keyvalue::put_line(b"samples=", heads[k + 1], out, a);
-    put_marks(cells, store_rows::rows::wide(heads[k + 2]), out, b)
+    put_marks(cells, heads[k + 2] as usize, out, b)
 }
 
 // The same for n greetings: their rows, their second list, and their marks one after another.
@@ -437,14 +345,12 @@ fn octets_of(table: &[u32], heads: &[u32], marks: &[u32], n: usize) -> usize
 {
     let mut sum = 0;
     let mut from = 0;
-    let mut i = 0;
-    while i < n {
+    for i in 0..n {
         let k = 1 + store_rows::rows::ROW_CELLS * i;
         let row = row_octets(table, k);
         let note = note_octets(heads, k, &marks[from..]);
         sum += row + note;
-        from += 2 * store_rows::rows::wide(heads[k + 2]);
-        i += 1;
+        from += 2 * heads[k + 2] as usize;
     }
     sum
 }
@@ -464,13 +370,11 @@ fn put_all(
 {
     let mut at = start;
     let mut from = 0;
-    let mut i = 0;
-    while i < n {
+    for i in 0..n {
         let k = 1 + store_rows::rows::ROW_CELLS * i;
         let a = put_row(table, k, out, at);
         at = put_note(heads, k, &marks[from..], out, a);
-        from += 2 * store_rows::rows::wide(heads[k + 2]);
-        i += 1;
+        from += 2 * heads[k + 2] as usize;
     }
     at
 }
@@ -480,20 +384,18 @@ fn put_form(size: usize, out: &mut [u8]) -> usize
     requires { length (form_by size) ≤ length out.old }
     ensures { Puts out.old 0 (form_by size) out.new result }
 {
-    if store_rows::rows::wide(MOST_PLACE) < size {
-        return text_lines::put_word(b"form=2\n", out, 0);
+    if size > MOST_PLACE as usize {
+        text_lines::put_word(b"form=2\n", out, 0)
+    } else {
+        0
     }
-    0
 }
 
 // How many octets that line is.
 fn form_octets(size: usize) -> usize
     ensures { result ≡ length (form_by size) }
 {
-    if store_rows::rows::wide(MOST_PLACE) < size {
-        return 7;
-    }
-    0
+    if size > MOST_PLACE as usize { 7 } else { 0 }
 }
 
 // How many octets the text of n greetings in a block of a size is.

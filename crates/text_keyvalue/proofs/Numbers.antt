@@ -5,16 +5,17 @@ use mathlib.Core.List.{List, [], ◌∷◌}
 use mathlib.Core.Bool.{Bool, true, false, cond}
 use native.Mathlib.Omega.{arith}
 use native.Mathlib.Numerals.{add-one}
-use lib.ListN.{length, get_or, drop, drop_of_length-le}
+use lib.ListN.{length, get_or, drop, take, drop_of_length-le}
 use lib.Seq.{drop-cons}
+use Rattle.std.proofs.lemmas.List.{take_rest, get_or-drop, length-drop}
 use lib.Dec.{leb}
 use borrow.Author.Tests.{leb-true, eq-eqb, ne_eqb}
 use Rattle.rules.proofs.Tests.{and_left, and_right}
-use Rattle.text_keyvalue.specs.declared.Told.{Told}
+use Rattle.std.specs.Prelude.{Option}
 use Rattle.text_keyvalue.specs.Reading.{Read, whole, none, is_digit, digits_on, decimal_on, number, most, capped, as_read}
 
 -- what a callee told, taken apart
-pub told : {r x : Told} {found : Read ℕ} → r ≡ x → as_read r ≡ found → as_read x ≡ found
+pub told : {A : Type 0} {r x : Option (A × ℕ)} {found : Read A} → r ≡ x → as_read r ≡ found → as_read x ≡ found
 told e f = sym (ap as_read e) ∙ f
 
 pub digit-range : (x : ℕ) → is_digit x ≡ true → (48 ≤ x) × (x ≤ 57)
@@ -74,3 +75,10 @@ module _ (text : List ℕ) (at : ℕ) where
     number-start z e =
         let n : 10 * 0 + (get_or text at 0 - 48) ≡ get_or text at 0 - 48 = omega arith in
         rw (n, drop-next text at h, ne_eqb _ _ z, e) (digits-capped (get_or text at 0 - 48) (at + 1) (drop (at + 1) text))
+
+-- the octets that are read one after another
+pub octet_on : (text : List ℕ) (at i : ℕ) → get_or (take (length text - at) (drop at text)) i 0 ≡ get_or text (at + i) 0
+octet_on text at i = rw (take_rest text at) (get_or-drop at text i 0)
+
+pub octets_on : (text : List ℕ) (at : ℕ) → length (take (length text - at) (drop at text)) ≡ length text - at
+octets_on text at = rw (take_rest text at) (length-drop at text)

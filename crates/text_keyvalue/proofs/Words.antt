@@ -1,29 +1,33 @@
--- A word at a place of a text, octet by octet.
-use Prim.Native.Nat.{ℕ, ◌+◌, ◌≤◌, ◌<◌}
-use mathlib.Core.Path.{◌≡◌, sym}
-use mathlib.Core.List.{List}
-use mathlib.Core.Bool.{true, false}
-use native.Mathlib.Numerals.{add-one}
-use lib.ListN.{length, get_or, drop, drop_of_length-le}
-use lib.Seq.{drop-cons}
-use borrow.Author.Tests.{eq-eqb, ne_eqb}
+-- A word at a place of a text, as the library tests it.
+use Prim.Native.Nat.{ℕ, ◌≤◌}
+use mathlib.Core.Path.{◌≡◌, refl, ap, ◌∙◌}
+use mathlib.Core.List.{List, [], ◌∷◌}
+use mathlib.Core.Bool.{Bool, true, false, ◌&&◌}
+use Rattle.std.proofs.Common.{min}
+use Rattle.std.specs.List.{starts_with}
+use lib.ListN.{length, drop, drop_of_length-le}
+use lib.Dec.{eqb, leb}
+use borrow.Author.Tests.{leb-true, leb-false}
+use native.Mathlib.Omega.{arith}
 use Rattle.text_keyvalue.specs.Reading.{begins}
 
-module _ (word text : List ℕ) (i j : ℕ) where
-  pub word_end : length word ≤ i → begins (drop i word) (drop j text) ≡ true
-  unfolding begins
-  word_end h = rw (drop_of_length-le word h)
+starts-begins : (word text : List ℕ) → starts_with eqb text word ≡ begins word text
+unfolding begins
+starts-begins [] text = refl
+starts-begins (x ∷ word) [] = refl
+starts-begins (x ∷ word) (y ∷ text) = ap (λ b. eqb x y && b) (starts-begins word text)
 
-  module _ (h : i < length word) where
-    pub word_cut : length text ≤ j → begins (drop i word) (drop j text) ≡ false
-    unfolding begins
-    word_cut l = rw (drop-cons word i 0 h, drop_of_length-le text l)
-
-    module _ (l : j < length text) where
-      pub word-step : get_or text j 0 ≡ get_or word i 0 → begins (drop i word) (drop j text) ≡ begins (drop (i + 1) word) (drop (j + 1) text)
-      unfolding begins
-      word-step e = rw (add-one, add-one, drop-cons word i 0 h, drop-cons text j 0 l, eq-eqb _ _ (sym e))
-
-      pub word-differ : (get_or text j 0 ≡ get_or word i 0 → ⊥) → begins (drop i word) (drop j text) ≡ false
-      unfolding begins
-      word-differ e = rw (drop-cons word i 0 h, drop-cons text j 0 l, ne_eqb _ _ (λ p. e (sym p)))
+pub has_begins : (word text : List ℕ) (at : ℕ) → starts_with eqb (drop (min at (length text)) text) word ≡ begins word (drop at text)
+has_begins word text at = ap (λ (t : List ℕ). starts_with eqb t word) (drop-min text at) ∙ starts-begins word (drop at text)
+  where
+    drop-min : (text : List ℕ) (at : ℕ) → drop (min at (length text)) text ≡ drop at text
+    drop-min text at = go (leb at (length text)) refl
+      where
+        go : (t : Bool) → leb at (length text) ≡ t → drop (min at (length text)) text ≡ drop at text
+        go true e = let m : min at (length text) ≡ at = omega (arith, leb-true at (length text) e) in rw m
+        go false e =
+            let h = leb-false at (length text) e in
+            let m : min at (length text) ≡ length text = omega arith in
+            let q : length text ≤ at = omega arith in
+            let p : length text ≤ length text = omega arith in
+            rw (m, drop_of_length-le text p, drop_of_length-le text q)

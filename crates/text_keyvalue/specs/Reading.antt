@@ -1,8 +1,6 @@
 -- What it is to read a text of octets: from all of it and a place, a value and the next place, or not of this form.
 -- Then a word, and a number: "decimal without leading zeros".
-use Rattle.std.specs.Prelude.{ℕ, ◌+◌, ◌*◌, ◌-◌, min, List, [], ◌∷◌, Bool, true, false, cond, ◌&&◌, length, drop, eqb, leb}
-use Rattle.text_keyvalue.specs.declared.Told.{Told}
-use Rattle.text_keyvalue.specs.declared.Told.TheVariants.{Got, Not}
+use Rattle.std.specs.Prelude.{ℕ, ◌+◌, ◌*◌, ◌-◌, min, List, [], ◌∷◌, Bool, true, false, cond, ◌&&◌, length, drop, eqb, leb, Option, Some, None}
 
 pub data Read (A : Type 0) : Type 0 where
   whole : A → ℕ → Read A
@@ -63,6 +61,7 @@ abbrev pub capped : Read ℕ → Read ℕ
 capped (whole n i) = whole (min n most) i
 capped none = none
 
-abbrev pub as_read : Told → Read ℕ
-as_read (Got n next) = whole n next
-as_read Not = none
+-- what the code tells: a value and the next place
+abbrev pub as_read : {A : Type 0} → Option (A × ℕ) → Read A
+as_read (Some (a, next)) = whole a next
+as_read None = none

@@ -1,6 +1,6 @@
 -- The digits of a number, found from the last one: `rest` is still to be spelled, its last digit at place `from` of 20 octets.
 use Prim.Native.Nat.{ℕ, zero, suc, ◌+◌, ◌*◌, ◌-◌, ◌^◌, ◌/◌, ◌%◌, ◌≤◌, ◌<◌}
-use mathlib.Core.Path.{◌≡◌, sym, ap, ◌∙◌}
+use mathlib.Core.Path.{◌≡◌, sym, ◌∙◌}
 use mathlib.Core.List.{List, [], ◌∷◌}
 use native.Mathlib.Omega.{arith}
 use mathlib.Core.Bool.{Bool, true, false, cond}
@@ -10,7 +10,6 @@ use native.Mathlib.Nat.{pow-suc}
 use lib.Seq.{set_split, drop_at, length-take-le, take_all}
 use borrow.Author.Tests.{lt-ltb, le-ltb}
 use Rattle.rules.specs.Listing.{digits_from, decimal}
-use Rattle.text_lines.specs.Puts.{Spells}
 
 pub record Spelling (n : ℕ) (octets : List ℕ) (from rest : ℕ) : Type 0 where
   pub size : length octets ≡ 20
@@ -43,17 +42,11 @@ module _ {n : ℕ} {o : List ℕ} {rest : ℕ} where
   spelling-turn zero s h = absurd (omega (arith, spelling-room zero rest s.left h))
   spelling-turn (suc from) s h = let e : suc from - 1 ≡ from = omega arith in rw e (turn from s h)
 
-  pub spelling-end : (from : ℕ) → Spelling n o from rest → rest < 10 → Spells (decimal n) (set o from (48 + rest)) from
+  pub spelling-end : (from : ℕ) → Spelling n o from rest → rest < 10 → take (20 - from) (drop from (set o from (48 + rest))) ≡ decimal n
   unfolding digits_from
   spelling-end from s h =
-      record {
-        says = rw (put-digit o from (48 + rest) (omega arith)) (sym (rw (lt-ltb rest 10 h)) ∙ s.says);
-        most = omega arith;
-        size = length-set o from (48 + rest) ∙ s.size;
-      }
-
-pub spelled : {digits o : List ℕ} (from : ℕ) → Spells digits o from → take (20 - from) (drop from o) ≡ digits
-spelled {digits} {o} from s = take_all (20 - from) (drop from o) (rw length-drop (omega arith)) ∙ s.says
+      take_all (20 - from) (drop from (set o from (48 + rest))) (rw (length-drop, length-set) (omega (arith, s.size)))
+      ∙ rw (put-digit o from (48 + rest) (omega arith)) (sym (rw (lt-ltb rest 10 h)) ∙ s.says)
 
 -- a number has at most 20 digits
 digits-most : (more n : ℕ) (text : List ℕ) → length (digits_from more n text) ≤ more + length text
@@ -68,7 +61,3 @@ digits-most (suc more) n text = go (ltb n 10) (digits-most more (n / 10) ((48 + 
 
 pub decimal-most : (n : ℕ) → length (decimal n) ≤ 20
 decimal-most n = digits-most 20 n []
-
--- so many octets
-pub spells-length : {digits o : List ℕ} (from : ℕ) → Spells digits o from → 20 - from ≡ length digits
-spells-length {digits} {o} from s = let l = length-drop from o in let n = s.size in let e = ap length s.says in omega arith

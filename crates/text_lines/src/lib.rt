@@ -5,59 +5,45 @@
 ghost use Rattle.std.specs.Prelude.{◌+◌, ◌≤◌, ◌≡◌, length, ◌++◌};
 ghost use Rattle.rules.specs.Listing.{line_end, tool_word, octets_word, bits_word, decimal, field};
 ghost use Rattle.rules.specs.Listing.{law_line, frame_line, stop_fields, stop_line, samples_line};
-ghost use Rattle.text_lines.specs.Puts.{Puts, Spells};
+ghost use Rattle.text_lines.specs.Puts.{Puts};
 
 pub fn put_word(word: &[u8], out: &mut [u8], at: usize) -> usize
     requires { at + length word.now ≤ length out.old }
     ensures { Puts out.old at word.now out.new result }
 {
-    let mut i = 0;
-    while i < word.len() {
-        out[at + i] = word[i];
-        i += 1;
-    }
-    at + i
+    let next = at + word.len();
+    out[at..next].copy_from_slice(word);
+    next
 }
 
-// A number's digits, from place `from` of the octets to their end.
-#[derive(Drop)]
-struct Spelled {
-    octets: [u8; 20],
-    from: usize,
-}
-
-// The last digit is found first, so the octets are filled from their end.
-fn spell(n: usize) -> Spelled
-    ensures { Spells (decimal n) result.octets result.from }
+// A number's digits, at the end of 20 octets. The last one is found first, so the octets are filled from their end.
+// The loop is the division: its turns are known by what is left of the number.
+fn spell(n: usize, octets: &mut [u8; 20]) -> &[u8]
+    ensures { result.now ≡ decimal n }
 {
-    let mut octets = [0u8; 20];
     let mut from = 19;
     let mut rest = n;
     while 10 <= rest {
-        octets[from] = 48 + (rest % 10) as u8;
+        octets[from] = b'0' + (rest % 10) as u8;
         rest /= 10;
         from -= 1;
     }
-    octets[from] = 48 + rest as u8;
-    Spelled { octets, from }
+    octets[from] = b'0' + rest as u8;
+    &octets[from..]
 }
 
 // How many octets a number's digits are.
 pub fn digits(n: usize) -> usize
     ensures { result ≡ length (decimal n) }
 {
-    let d = spell(n);
-    20 - d.from
+    spell(n, &mut [0; 20]).len()
 }
 
 pub fn put_number(n: usize, out: &mut [u8], at: usize) -> usize
     requires { at + length (decimal n) ≤ length out.old }
     ensures { Puts out.old at (decimal n) out.new result }
 {
-    let d = spell(n);
-    let octets = d.octets;
-    let from = d.from;
-    put_word(&octets[from..], out, at)
+    put_word(spell(n, &mut [0; 20]), out, at)
 }
 
 pub fn put_field(word: &[u8], n: usize, out: &mut [u8], at: usize) -> usize
@@ -78,6 +64,7 @@ pub fn law_line(law: usize, out: &mut [u8], at: usize) -> usize
     put_word(b"\n", out, end)
 }
 
+// Apart from `law_line`: the paper names both lines, and each is short.
 pub fn samples_line(samples: usize, out: &mut [u8], at: usize) -> usize
     requires { at + 160 ≤ length out.old }
     ensures puts { Puts out.old at (samples_line samples) out.new result }

@@ -2,7 +2,8 @@
 // read or written: what a line holds comes from crates `tool_words` and `text_lines`.
 #![tactic(auto)]
 
-ghost use Rattle.std.specs.Prelude.{◌≡◌, ◌^◌, ◌≤◌, ◌<◌, IfOk, length, take};
+ghost use Rattle.std.specs.Prelude.{◌≡◌, ◌^◌, ◌≤◌, ◌<◌, IfOk, length};
+ghost use Rattle.tool_words.specs.Arguments.{law_of};
 
 use std::env::FillError;
 use std::fs::{File, OpenOptions};
@@ -10,78 +11,53 @@ use std::io::{Cursor, ErrorKind, Print, Read, Seek, SeekFrom, Stdin, Stdout, Wri
 use std::os::unix::fs::OpenOptionsExt;
 use std::random::RandomSource;
 use std::rt::Env;
-use std::{fs, io};
-use tool_words::options::{Settings, State, Tool, Words, Wrong};
+use std::{fmt, fs, io};
+use tool_words::options::{Mistake, Settings, Tool, Words, Wrong};
 
-// Says a text for people. Where standard error takes nothing, nothing is said.
+// Says octets, such as a name. Where standard error takes nothing, nothing is said.
+// Octets and no &str: names of files and arguments need be no text.
 pub fn say(rt: HostRuntime, text: &[u8]) {
     let _ = Print::write_all(&rt.stderr(), text);
 }
 
-// Says a word and a number.
-pub fn say_number(rt: HostRuntime, word: &[u8], n: usize) {
-    say(rt, word);
-    let _ = eprint!(rt; "{n}");
+// Says a line for people, after the tool's name.
+pub fn tell<D: fmt::Display + Drop>(rt: HostRuntime, tool: Tool, what: D) {
+    let _ = eprintln!(rt; "{tool}: {what}");
 }
 
-// The tool's name stands before its messages.
-pub fn say_tool(rt: HostRuntime, tool: Tool) {
-    match tool {
-        Tool::Unpack => say(rt, b"unpack: "),
-        Tool::Pack => say(rt, b"pack: "),
-        Tool::Why => say(rt, b"why: "),
-        Tool::Mend => say(rt, b"mend: "),
-    }
-}
-
-// The last line of a run over sound: `stop=N at=P tool=T`.
-fn stop_packing(rt: HostRuntime, number: u32, place: usize, tool: u32) {
-    let mut text = [0u8; 160];
-    let n = text_lines::pack_line(number as usize, place, tool as usize, &mut text, 0);
-    say(rt, &text[..n]);
-}
-
-// The last line of a run over frames: `stop=N at=P tool=T bit=B`.
-fn stop_unpacking(rt: HostRuntime, number: u32, place: usize, tool: u32, bit: usize) {
-    let mut text = [0u8; 160];
-    let n = text_lines::stop_line(number as usize, place, tool as usize, bit, &mut text, 0);
-    say(rt, &text[..n]);
-}
-
-// The last line of every run. A writing has no bit to name.
+// The last line of every run: `stop=N at=P tool=T`, and of a run over frames also `bit=B`. A writing has no bit to name.
 pub fn stop(rt: HostRuntime, program: Tool, number: u32, place: usize, tool: u32, bit: usize) {
-    if tool_words::options::reads_sound(program) {
-        stop_packing(rt, number, place, tool);
+    let mut text = [0u8; 160];
+    let n = if tool_words::options::reads_sound(program) {
+        text_lines::pack_line(number as usize, place, tool as usize, &mut text, 0)
     } else {
-        stop_unpacking(rt, number, place, tool, bit);
-    }
+        text_lines::stop_line(number as usize, place, tool as usize, bit, &mut text, 0)
+    };
+    say(rt, &text[..n]);
 }
 
-// A refusal of document 01, or HEAD, and the last line.
+// A refusal of document 01, or HEAD, and the last line. TOOL names the tool.
 pub fn refused(rt: HostRuntime, program: Tool, number: u32, place: usize, tool: u32, bit: usize) {
-    let mut name = [0u8; 8];
-    let n = tool_words::refusals::refusal_name(number, &mut name);
-    say_tool(rt, program);
-    say(rt, b"refused: ");
-    say(rt, &name[..n]);
-    say_number(rt, b" at octet ", place);
+    let name = tool_words::refusals::refusal_name(number);
     if number == 3 {
-        say_number(rt, b", tool ", tool as usize);
+        tell(
+            rt,
+            program,
+            format_args!("refused: {name} at octet {place}, tool {tool}"),
+        );
+    } else {
+        tell(
+            rt,
+            program,
+            format_args!("refused: {name} at octet {place}"),
+        );
     }
-    say(rt, b"\n");
     stop(rt, program, number, place, tool, bit);
 }
 
 // What was done.
-fn say_totals(rt: HostRuntime, frames: usize, samples: usize, octets: usize) {
-    say_number(rt, b"frames=", frames);
-    say_number(rt, b" samples=", samples);
-    say_number(rt, b" octets=", octets);
-}
-
 pub fn summary(rt: HostRuntime, frames: usize, samples: usize, octets: usize) {
-    say_totals(rt, frames, samples, octets);
-    say(rt, b"\n");
+    let _ = eprintln!(rt; "frames={frames} samples={samples} octets={octets}");
 }
 
 // The same of a recording, with its losses.
@@ -92,151 +68,137 @@ pub fn summary_of_recording(
     octets: usize,
     lost: usize,
 ) {
-    say_totals(rt, frames, samples, octets);
-    say_number(rt, b" lost=", lost);
-    say(rt, b"\n");
+    let _ = eprintln!(rt; "frames={frames} samples={samples} octets={octets} lost={lost}");
 }
 
-// How a tool is called.
+// How a tool is called, and the last line.
 fn say_usage(rt: HostRuntime, tool: Tool) {
-    match tool {
-        Tool::Unpack => say(
-            rt,
-            b"usage: unpack [-u|-a] [-l|-w] [-s#] [-v] [-g] [-c MASTER] [INFILE [OUTFILE]]\n",
-        ),
-        Tool::Pack => say(
-            rt,
-            b"usage: pack [-u|-a] [-l|-w] [-n#] [-s#] [-f] [-r] [INFILE [OUTFILE]]\n",
-        ),
-        Tool::Why => say(rt, b"usage: why [-u|-a] [-s#] [-n#] [-k#] [INFILE]\n"),
-        Tool::Mend => say(rt, b"usage: mend [-u|-a] -t TOTAL INFILE OUTFILE\n"),
-    }
+    let how = match tool {
+        Tool::Unpack => "[-u|-a] [-l|-w] [-s#] [-v] [-g] [-c MASTER] [INFILE [OUTFILE]]",
+        Tool::Pack => "[-u|-a] [-l|-w] [-n#] [-s#] [-f] [-r] [INFILE [OUTFILE]]",
+        Tool::Why => "[-u|-a] [-s#] [-n#] [-k#] [INFILE]",
+        Tool::Mend => "[-u|-a] -t TOTAL INFILE OUTFILE",
+    };
+    let _ = eprintln!(rt; "usage: {tool} {how}");
+    stop(rt, tool, 64, 0, 0, 0);
 }
 
 // A call that is wrong, why, and the last line.
-pub fn usage(rt: HostRuntime, tool: Tool, why: &[u8]) {
-    say_tool(rt, tool);
-    say(rt, why);
-    say(rt, b"\n");
+pub fn usage(rt: HostRuntime, tool: Tool, why: &str) {
+    tell(rt, tool, why);
     say_usage(rt, tool);
-    stop(rt, tool, 64, 0, 0, 0);
 }
 
-// Says an argument, or its number where it is too long.
-fn say_argument(rt: HostRuntime, i: usize) {
+// The law: as an option says, otherwise as INFILE's name tells. That nothing tells it is said.
+pub fn law_of(rt: HostRuntime, s: Settings, name: &[u8]) -> Option<u32>
+    ensures { result ≡ law_of s name.now }
+{
+    let law = tool_words::options::law_of(s, name);
+    if law.is_none() {
+        usage(rt, s.tool, "the law is not known: say -u or -a");
+    }
+    law
+}
+
+// Settings that are refused before any file is opened: SET and LENGTH say what is allowed.
+pub fn refuse_settings(rt: HostRuntime, tool: Tool, number: u32) {
+    match number {
+        11 => tell(
+            rt,
+            tool,
+            format_args!(
+                "the tool set is an odd number of at most {}",
+                rules::ALL_TOOLS
+            ),
+        ),
+        10 => tell(rt, tool, "the frame length is 40, 80, 160, 240 or 320"),
+        _ => {}
+    }
+    refused(rt, tool, number, 0, 0, 0);
+}
+
+// An argument that is wrong, or its number where it is too long to be told, and the last line.
+fn wrong_argument(rt: HostRuntime, tool: Tool, mistake: Mistake) {
     let mut text = [0u8; 4095];
-    match rt.arg(i, &mut text) {
-        Ok(n) => say(rt, &text[..n]),
-        Err(_) => say_number(rt, b"argument ", i),
-    }
-}
-
-// What is wrong with an argument.
-fn say_wrong(rt: HostRuntime, why: Wrong) {
-    match why {
-        Wrong::Unknown => say(rt, b"not a known option: "),
-        Wrong::NoNumber => say(rt, b"not a number of 1 to 9 digits: "),
-        Wrong::ManyFiles => say(rt, b"one file too many: "),
-        Wrong::Missing => say(rt, b"nothing follows the option "),
-        Wrong::TooLong => say(rt, b"too long: "),
-    }
-}
-
-// An argument that is wrong, and the last line.
-fn wrong_argument(rt: HostRuntime, tool: Tool, why: Wrong, place: usize) {
-    say_tool(rt, tool);
-    say_wrong(rt, why);
-    say_argument(rt, place);
-    say(rt, b"\n");
-    say_usage(rt, tool);
-    stop(rt, tool, 64, 0, 0, 0);
-}
-
-// Whether an argument is wrong: which, and why, is said.
-pub fn wrongly_said(rt: HostRuntime, w: Words) -> bool {
-    let said = w.said;
-    let tool = said.tool;
-    let state = w.state;
-    match state {
-        State::Wrong(why, place) => {
-            wrong_argument(rt, tool, why, place);
-            true
+    let Mistake { why, place } = mistake;
+    match rt.arg(place, &mut text) {
+        Ok(n) => {
+            let _ = eprint!(rt; "{tool}: {why}");
+            say(rt, &text[..n]);
+            say(rt, b"\n");
         }
-        State::Ready => false,
-        State::Counts(_) => false,
-        State::Master => false,
+        Err(_) => tell(rt, tool, format_args!("{why}argument {place}")),
     }
+    say_usage(rt, tool);
 }
 
-// One argument more; nothing where there is none.
-fn words_after(rt: HostRuntime, w: Words, i: usize, text: &mut [u8]) -> Option<Words> {
-    match rt.arg(i, text) {
-        Ok(n) => Some(tool_words::options::step(w, &text[..n], i)),
-        Err(FillError::TooLong) => Some(tool_words::options::too_long(w, i)),
-        Err(FillError::NotPresent) => None,
-    }
-}
-
-// What all arguments say.
-pub fn words(rt: HostRuntime, tool: Tool) -> Words {
+// What all arguments say, and the number of the last one.
+pub fn words(rt: HostRuntime, tool: Tool) -> Result<(Words, usize), Mistake> {
     let mut text = [0u8; 4095];
     let mut w = tool_words::options::at_first(tool);
     let mut last = 0;
     for i in 1..usize::MAX {
-        match words_after(rt, w, i, &mut text) {
-            Some(next) => w = next,
-            None => break,
+        match rt.arg(i, &mut text) {
+            Ok(n) => w = tool_words::options::step(w, &text[..n], i)?,
+            Err(FillError::TooLong) => return Err(Mistake {
+                why: Wrong::TooLong,
+                place: i,
+            }),
+            Err(FillError::NotPresent) => break,
         }
         last = i;
     }
+    Ok((w, last))
+}
+
+fn settings_in(rt: HostRuntime, tool: Tool) -> Result<Settings, Mistake> {
+    let (w, last) = words(rt, tool)?;
     tool_words::options::at_end(w, last)
 }
 
-// The name of the file that an argument gives. It is empty where there is no argument or it is "-": that is standard input or output.
-pub fn file_name(rt: HostRuntime, index: usize, name: &mut [u8]) -> usize
-    ensures within { result ≤ length name.new }
-    ensures whole { result ≡ length (take result name.new) }
-{
-    if index == 0 {
-        return 0;
-    }
-    match rt.arg(index, name) {
-        Ok(n) => {
-            if tool_words::texts::is_same(&name[..n], b"-") {
-                return 0;
-            }
-            n
+// The settings that the arguments make; which of them is wrong, and why, is said.
+pub fn settings(rt: HostRuntime, tool: Tool) -> Option<Settings> {
+    match settings_in(rt, tool) {
+        Ok(s) => Some(s),
+        Err(mistake) => {
+            wrong_argument(rt, tool, mistake);
+            None
         }
-        Err(_) => 0,
     }
 }
 
-// The name of the file that is written, and whether it fits.
-#[derive(Clone, Copy)]
-pub struct Target {
-    pub len: usize,
-    pub fits: bool,
+// The name of the file that an argument gives. It is empty where there is no argument or it is "-": that is standard input or output.
+pub fn file_name<'a>(rt: HostRuntime, index: Option<usize>, space: &'a mut [u8]) -> &'a [u8] {
+    let Some(i) = index else {
+        return b"";
+    };
+    match rt.arg(i, space) {
+        Ok(n) => match &space[..n] {
+            b"-" => b"",
+            name => name,
+        },
+        Err(_) => b"",
+    }
 }
 
-// OUTFILE; without it, standard output where INFILE is standard input, else INFILE's name with a new ending.
-pub fn target_name(rt: HostRuntime, s: Settings, law: u32, source: &[u8], name: &mut [u8]) -> Target
-    ensures within { result.len ≤ length name.new }
-    ensures whole { result.len ≡ length (take result.len name.new) }
-{
-    if s.outfile != 0 {
-        let len = file_name(rt, s.outfile, name);
-        return Target { len, fits: true };
+// The name of the file that is written: OUTFILE; without it, standard output where INFILE is standard input, else INFILE's name with a new
+// ending. There is none where that does not fit.
+pub fn target_name<'a>(
+    rt: HostRuntime,
+    s: Settings,
+    law: u32,
+    source: &[u8],
+    space: &'a mut [u8],
+) -> Option<&'a [u8]> {
+    if s.outfile.is_some() {
+        return Some(file_name(rt, s.outfile, space));
     }
-    if source.len() == 0 {
-        return Target { len: 0, fits: true };
+    if source.is_empty() {
+        return Some(b"");
     }
-    let tool = s.tool;
-    let packs = tool_words::options::reads_sound(tool);
-    let len = tool_words::filenames::new_name(packs, law, source, name);
-    Target {
-        len,
-        fits: len != 0,
-    }
+    let packs = tool_words::options::reads_sound(s.tool);
+    let n = tool_words::filenames::new_name(packs, law, source, space)?;
+    Some(&space[..n])
 }
 
 // What is read: standard input, or a file that was opened.
@@ -258,30 +220,23 @@ const NO_TEXT: i32 = 84;
 
 // A name as a path. The library opens files by names that are UTF-8 text, and by no others.
 fn path_in(name: &[u8]) -> io::Result<&str> {
-    match str::from_utf8(name) {
-        Ok(path) => Ok(path),
-        Err(_) => Err(io::Error::from_raw_os_error(NO_TEXT)),
-    }
+    str::from_utf8(name).map_err(|_| io::Error::from_raw_os_error(NO_TEXT))
 }
 
 // A file to read, or standard input; the error says why it can't be opened.
 pub fn open_in(rt: HostRuntime, name: &[u8]) -> io::Result<InFile> {
-    if name.len() == 0 {
+    if name.is_empty() {
         return Ok(InFile::Standard(rt.stdin()));
     }
-    let path = path_in(name)?;
-    let file = fs::open(&rt, path)?;
-    Ok(InFile::Named(file))
+    Ok(InFile::Named(fs::open(&rt, path_in(name)?)?))
 }
 
 // A file to write, emptied or made, or standard output; the error says why it can't be opened.
 pub fn open_out(rt: HostRuntime, name: &[u8]) -> io::Result<OutFile> {
-    if name.len() == 0 {
+    if name.is_empty() {
         return Ok(OutFile::Standard(rt.stdout()));
     }
-    let path = path_in(name)?;
-    let file = fs::create(&rt, path)?;
-    Ok(OutFile::Named(file))
+    Ok(OutFile::Named(fs::create(&rt, path_in(name)?)?))
 }
 
 // Octets to a file; after an error some of them may be written.
@@ -300,12 +255,10 @@ pub fn write_kept(fd: &File, octets: &[u8]) -> io::Result<()> {
 
 // Whether an error only says that this is no file whose octets are brought to a disk.
 fn has_no_disk(why: io::Error) -> bool {
-    match why.kind() {
-        ErrorKind::InvalidInput => true,
-        ErrorKind::Unsupported => true,
-        ErrorKind::ReadOnlyFilesystem => true,
-        _ => false,
-    }
+    matches!(
+        why.kind(),
+        ErrorKind::InvalidInput | ErrorKind::Unsupported | ErrorKind::ReadOnlyFilesystem
+    )
 }
 
 // Closes a file that was written; standard output stays open. The library tells no error of the closing itself, so the octets are brought
@@ -314,13 +267,8 @@ pub fn close(fd: OutFile) -> io::Result<()> {
     match fd {
         OutFile::Standard(_) => Ok(()),
         OutFile::Named(file) => match file.sync_all() {
-            Ok(()) => Ok(()),
-            Err(why) => {
-                if has_no_disk(why) {
-                    return Ok(());
-                }
-                Err(why)
-            }
+            Err(why) if has_no_disk(why) => Ok(()),
+            end => end,
         },
     }
 }
@@ -329,14 +277,10 @@ pub fn close(fd: OutFile) -> io::Result<()> {
 fn text_end(text: &[u8]) -> usize
     ensures { result ≤ length text.now }
 {
-    let mut i = text.len();
-    while 1 < i {
-        i -= 1;
-        if text[i] == b'(' {
-            return i - 1;
-        }
+    match text.iter().rposition(|x| *x == b'(') {
+        Some(i) if 0 < i => i - 1,
+        _ => text.len(),
     }
-    text.len()
 }
 
 // Why something failed, in the system's words.
@@ -355,11 +299,16 @@ fn say_why(rt: HostRuntime, why: io::Error) {
     }
 }
 
+// The error where no call failed.
+pub fn no_error() -> io::Error {
+    io::Error::from_raw_os_error(0)
+}
+
 // A file that could not be opened, read or written: why, and the last line.
-pub fn failed(rt: HostRuntime, tool: Tool, name: &[u8], standard: &[u8], why: io::Error) {
-    say_tool(rt, tool);
-    if name.len() == 0 {
-        say(rt, standard);
+pub fn failed(rt: HostRuntime, tool: Tool, name: &[u8], standard: &str, why: io::Error) {
+    let _ = eprint!(rt; "{tool}: ");
+    if name.is_empty() {
+        say(rt, standard.as_bytes());
     } else {
         say(rt, name);
     }
@@ -369,44 +318,41 @@ pub fn failed(rt: HostRuntime, tool: Tool, name: &[u8], standard: &[u8], why: io
     stop(rt, tool, 74, 0, 0, 0);
 }
 
-// How many octets were read, and why a read failed, if one did.
-#[derive(Clone, Copy)]
-pub struct Got {
-    pub count: usize,
-    pub failed: Option<io::Error>,
+// The same of a file that is read, and of one that is written.
+pub fn unread(rt: HostRuntime, tool: Tool, name: &[u8], why: io::Error) {
+    failed(rt, tool, name, "standard input", why);
 }
 
-// Reads until the octets lent are full, the input ends or a read fails.
-fn fill<R: Read>(from: &mut R, buf: &mut [u8]) -> Got
-    ensures { result.count ≤ length buf.new }
+pub fn unwritten(rt: HostRuntime, tool: Tool, name: &[u8], why: io::Error) {
+    failed(rt, tool, name, "standard output", why);
+}
+
+// The names of what is read, and of what is written or compared.
+#[derive(Clone, Copy)]
+pub struct Names<'a> {
+    pub from: &'a [u8],
+    pub to: &'a [u8],
+}
+
+// Reads until the octets lent are full or the input ends: how many were read, or why a read failed.
+// A `while`: how many octets a read gives is known when it is done.
+fn fill<R: Read>(from: &mut R, buf: &mut [u8]) -> io::Result<usize>
+    ensures { IfOk result (λ n. n ≤ length buf.new) }
 {
     let mut done = 0;
     while done < buf.len() {
-        match from.read(&mut buf[done..]) {
-            Ok(n) => {
-                if n == 0 {
-                    return Got {
-                        count: done,
-                        failed: None,
-                    };
-                }
-                done += n;
-            }
-            Err(why) => return Got {
-                count: done,
-                failed: Some(why),
-            },
+        let n = from.read(&mut buf[done..])?;
+        if n == 0 {
+            break;
         }
+        done += n;
     }
-    Got {
-        count: done,
-        failed: None,
-    }
+    Ok(done)
 }
 
 // Reads until the octets lent are full, the file ends or a read fails.
-pub fn read_part(fd: &InFile, buf: &mut [u8]) -> Got
-    ensures { result.count ≤ length buf.new }
+pub fn read_part(fd: &InFile, buf: &mut [u8]) -> io::Result<usize>
+    ensures { IfOk result (λ n. n ≤ length buf.new) }
 {
     match fd {
         InFile::Standard(input) => {
@@ -431,18 +377,13 @@ pub struct Source {
 fn count_part(fd: &InFile, keep: &File, part: &mut [u8]) -> io::Result<usize>
     ensures { IfOk result (λ n. n ≤ length part.new) }
 {
-    let got = read_part(fd, part);
-    let n = got.count;
-    match got.failed {
-        Some(why) => Err(why),
-        None => {
-            write_kept(keep, &part[..n])?;
-            Ok(n)
-        }
-    }
+    let n = read_part(fd, part)?;
+    write_kept(keep, &part[..n])?;
+    Ok(n)
 }
 
 // How many octets a file has, kept in another; no more parts are read once they are above `most`.
+// A `while`: how many octets a part has is known when it is read.
 fn counted(fd: &InFile, keep: &File, most: usize, part: &mut [u8]) -> io::Result<usize>
     requires { (1 ≤ length part.old) × (length part.old < 2 ^ 32) × (most < 2 ^ 32) }
 {
@@ -451,7 +392,7 @@ fn counted(fd: &InFile, keep: &File, most: usize, part: &mut [u8]) -> io::Result
         let n = count_part(fd, keep, part)?;
         size += n;
         if n < part.len() {
-            return Ok(size);
+            break;
         }
     }
     Ok(size)
@@ -472,9 +413,8 @@ fn some_name(rt: HostRuntime, tried: usize) -> [u8; 17] {
     let mut drawn = [0u8; LETTERS];
     let _ = rt.fill_bytes(&mut drawn);
     let mut n = tried;
-    for i in 0..LETTERS {
-        let letter = (drawn[i] as usize + n % 26) % 26;
-        name[11 + i] = b'a' + letter as u8;
+    for (letter, x) in name[11..].iter_mut().zip(drawn.iter()) {
+        *letter = b'a' + ((usize::from(*x) + n % 26) % 26) as u8;
         n /= 26;
     }
     name
@@ -496,14 +436,9 @@ fn made(rt: HostRuntime, name: &[u8]) -> io::Result<File> {
 // A file that has no name, to keep octets in: it is made as /tmp/g7110.XXXXXX and unlinked at once; the error says why none can be made.
 pub fn nameless(rt: HostRuntime) -> io::Result<File> {
     for tried in 0..NAMES {
-        let name = some_name(rt, tried);
-        match made(rt, &name) {
-            Ok(file) => return Ok(file),
-            Err(why) => {
-                if why.kind() != ErrorKind::AlreadyExists {
-                    return Err(why);
-                }
-            }
+        match made(rt, &some_name(rt, tried)) {
+            Err(why) if why.kind() == ErrorKind::AlreadyExists => {}
+            end => return end,
         }
     }
     Err(io::Error::from_raw_os_error(NAME_TAKEN))
@@ -520,16 +455,11 @@ pub fn source_of(rt: HostRuntime, fd: &InFile, most: usize, part: &mut [u8]) -> 
 }
 
 // Reads from a place on, until the octets lent are full, the file ends or a read fails.
-pub fn read_at(fd: &File, at: usize, buf: &mut [u8]) -> Got
+pub fn read_at(fd: &File, at: usize, buf: &mut [u8]) -> io::Result<usize>
     requires { at < 2 ^ 32 }
-    ensures { result.count ≤ length buf.new }
+    ensures { IfOk result (λ n. n ≤ length buf.new) }
 {
     let mut from = fd;
-    match from.seek(SeekFrom::Start(at as u64)) {
-        Ok(_) => fill(&mut from, buf),
-        Err(why) => Got {
-            count: 0,
-            failed: Some(why),
-        },
-    }
+    from.seek(SeekFrom::Start(at as u64))?;
+    fill(&mut from, buf)
 }

@@ -9,7 +9,7 @@ use lib.ListN.{length, take, drop, length-append, length-drop}
 use lib.Seq.{length-take-le}
 use lib.Dec.{eqb}
 use borrow.Author.Tests.{eqb-false, le-ltb}
-use Rattle.rules.specs.declared.Ending.{Ending}
+use Rattle.rules.specs.Refusals.{Ending}
 use Rattle.rules.specs.Tools.{is_writer_set}
 use Rattle.rules.specs.Samples.{mask_of}
 use Rattle.rules.proofs.Tests.{by_length}

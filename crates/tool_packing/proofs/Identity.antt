@@ -8,7 +8,7 @@ use lib.ListN.{length, take, drop}
 use lib.Seq.{take_at, length-take-le}
 use lib.Dec.{eqb}
 use borrow.Author.Tests.{eqb-false}
-use Rattle.rules.specs.declared.Ending.TheVariants.{Done}
+use Rattle.std.proofs.Common.{Ok}
 use Rattle.rules.specs.declared.WalkAnswer.{WalkAnswer}
 use Rattle.rules.specs.Tools.{Within, is_set, is_writer_set}
 use Rattle.rules.specs.Samples.{mask_of}
@@ -63,14 +63,14 @@ cuts-may (suc a) n set reader {s} o w b =
 
 -- what a walk over a stream gives back: all of the sound, frame for frame, with all octets used
 pub record GivesBack (sound : List ℕ) (count : ℕ) (stream : List ℕ) (w : Walked) : Type 0 where
-  pub end : w.end ≡ Done
+  pub end : w.end ≡ Ok tt
   pub sound_back : samples_kept w.frames ≡ sound
   pub frames : length w.frames ≡ count
   pub octets : octets_kept w.frames ≡ length stream
   pub place : w.place ≡ length stream
 
 -- the identity: what packing made of a sound, walked, is the sound
-pub pack-walk : (sound : List ℕ) (law set n room : ℕ) → Below 256 sound → (pack_all sound law set n room).end ≡ Done
+pub pack-walk : (sound : List ℕ) (law set n room : ℕ) → Below 256 sound → (pack_all sound law set n room).end ≡ Ok tt
     → (reader into : ℕ) → is_set reader ≡ true → Within set reader
     → length (stream_of law set (pack_all sound law set n room).frames) ≤ longest → length sound ≤ into
     → GivesBack sound (length (pack_all sound law set n room).frames) (stream_of law set (pack_all sound law set n room).frames)
@@ -94,14 +94,14 @@ pack-walk sound law set n room b e reader into i w h r =
 
 -- the same by the contracts of the two calls: what `pack` left in a lent output of at most 1,048,576 octets, `walk` puts out as the sound
 pub record Returned (sound : List ℕ) (r : PackAnswer) (into into' : List ℕ) (w : WalkAnswer) : Type 0 where
-  pub end : w.end ≡ Done
+  pub end : w.end ≡ Ok tt
   pub frames : w.frames ≡ r.frames
   pub octets : w.octets ≡ r.octets
   pub samples : w.samples ≡ length sound
   pub lent : into' ≡ at_start sound into
 
 pub packed-walked : (sound : List ℕ) (law set n : ℕ) (out out' : List ℕ) (r : PackAnswer) → Below 256 sound → length out ≤ longest
-    → Pack sound law set n out out' r → r.end ≡ Done
+    → Pack sound law set n out out' r → r.end ≡ Ok tt
     → (reader : ℕ) (into into' : List ℕ) (w : WalkAnswer) → is_set reader ≡ true → Within set reader → length sound ≤ length into
     → Walk (take r.octets out') law reader into into' w → Returned sound r into into' w
 packed-walked sound law set n out out' r b m c e reader into into' w i h s d =

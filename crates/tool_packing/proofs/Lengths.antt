@@ -6,7 +6,7 @@ use mathlib.Core.Bool.{Bool, true, false, cond}
 use lib.Dec.{leb}
 use borrow.Author.Tests.{le-leb, lt-leb, ne_eqb, eq-eqb, leb-true, leb-false}
 use Rattle.rules.specs.declared.Refusal.TheVariants.{Length}
-use Rattle.rules.specs.declared.Ending.TheVariants.{Done, Refused}
+use Rattle.std.proofs.Common.{Ok, Err}
 use Rattle.rules.specs.Tools.{is_length}
 use Rattle.rules.proofs.Tests.{by_length}
 use Rattle.tool_packing.specs.Cuts.{largest_up_to, next_length, last_end}
@@ -97,10 +97,10 @@ next_fits n left l e h = rw e (go (next_length n left) (largest-is (min n left))
     go m (one a b c) k = record { allowed = a; within = omega arith; some = c }
 
 -- how a sound ends
-pub none_left : (left : ℕ) → left ≡ 0 → Done ≡ last_end left
+pub none_left : (left : ℕ) → left ≡ 0 → (Ok tt) ≡ last_end left
 unfolding last_end
 none_left left h = rw (eq-eqb left 0 h)
 
-pub some_left : (left : ℕ) → (left ≡ 0 → ⊥) → Refused Length ≡ last_end left
+pub some_left : (left : ℕ) → (left ≡ 0 → ⊥) → Err Length ≡ last_end left
 unfolding last_end
 some_left left h = rw (ne_eqb left 0 h)

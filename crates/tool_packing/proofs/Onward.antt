@@ -9,8 +9,8 @@ use lib.ListN.{length, take, drop, length-append}
 use lib.Seq.{length-take-le}
 use lib.Dec.{eqb}
 use borrow.Author.Tests.{eqb-true, eqb-false}
-use Rattle.rules.specs.declared.Ending.{Ending}
-use Rattle.rules.specs.declared.Ending.TheVariants.{Done, Refused}
+use Rattle.rules.specs.Refusals.{Ending}
+use Rattle.std.proofs.Common.{Ok, Err}
 use Rattle.rules.specs.Tools.{is_writer_set}
 use Rattle.rules.specs.Samples.{mask_of}
 use Rattle.rules.specs.Walk.{longest}
@@ -61,8 +61,8 @@ on-adds part law set n page page' {done} {r} h t = go (bounds done.end)
     room = room_on done.octets (length page)
 
     bounds : (e : Ending) → Bounds (length part) (length part) room (packed_on e part law set n room) law set
-    bounds Done = pack-bounds part law set n room
-    bounds (Refused why) = none_kept law set room (length part) (length part) (Refused why)
+    bounds (Ok _) = pack-bounds part law set n room
+    bounds (Err why) = none_kept law set room (length part) (length part) (Err why)
 
     go : Bounds (length part) (length part) room (packed_on done.end part law set n room) law set
         → Adds (length part) (length page) done r
@@ -76,13 +76,13 @@ on-adds part law set n page page' {done} {r} h t = go (bounds done.end)
         }
 
 pub on-takes-room : (part : List ℕ) (law set n : ℕ) (page page' : List ℕ) {done r : PackAnswer} → Below 256 part → 1 ≤ length part
-    → PackOn done part law set n page page' r → r.end ≡ Done → done.octets < r.octets
+    → PackOn done part law set n page page' r → r.end ≡ Ok tt → done.octets < r.octets
 on-takes-room part law set n page page' {done} {r} b h t e = go done.end t
   where
     go : (d : Ending) → PacksAfter done law set (packed_on d part law set n (room_on done.octets (length page))) page page' r
         → done.octets < r.octets
-    go (Refused why) t = not_done why (sym t.end ∙ e)
-    go Done t =
+    go (Err why) t = not_done why (sym t.end ∙ e)
+    go (Ok tt) t =
         let room = room_on done.octets (length page) in
         let w = well-packed part law set n room (sym t.end ∙ e) in
         let all : 1 ≤ length (sound_in (cuts n part)) = rw w.frames at (rw (← w.sound-whole) at h) in

@@ -5,7 +5,7 @@ use mathlib.Core.List.{List}
 use mathlib.Core.Bool.{true, false}
 use Rattle.rules.specs.declared.Refusal.{Refusal}
 use Rattle.rules.specs.declared.Refusal.TheVariants.{Length}
-use Rattle.rules.specs.declared.Ending.TheVariants.{Refused}
+use Rattle.std.proofs.Common.{Err}
 use Rattle.rules.specs.Refusals.{verdict}
 use Rattle.rules.specs.Tools.{is_law, is_writer_set, is_length, writer_asks}
 use Rattle.rules.proofs.Guards.{verdict-refused}
@@ -15,7 +15,7 @@ use Rattle.tool_packing.specs.Packing.{stream_of, Packed, halted, put_all, pack_
 use Rattle.tool_packing.specs.Parts.{StopsAtOnce}
 
 -- no frame is packed, and the output is as lent
-pub stops : {why : Refusal} {r : PackAnswer} → StopsAtOnce why r → (law set : ℕ) (p : Packed) → halted (Refused why) ≡ p
+pub stops : {why : Refusal} {r : PackAnswer} → StopsAtOnce why r → (law set : ℕ) (p : Packed) → halted (Err why) ≡ p
     → (out : List ℕ) → Packs law set p r out out
 unfolding sound_in stream_of
 stops {why} {r} s law set p e out =
@@ -28,11 +28,11 @@ pub packs-as : {law set : ℕ} {p q : Packed} {r : PackAnswer} {out out' : List 
 packs-as {law} {set} {r = r} {out = out} {out' = out'} e t = subst (λ (p : Packed). Packs law set p r out out') e t
 
 module _ (sound : List ℕ) (law set n room : ℕ) where
-  pub refuses : {why : Refusal} → verdict (writer_asks law set) ≡ Refused why → halted (Refused why) ≡ pack_all sound law set n room
+  pub refuses : {why : Refusal} → verdict (writer_asks law set) ≡ Err why → halted (Err why) ≡ pack_all sound law set n room
   unfolding pack_all
-  refuses e = sym (verdict-refused (λ why. halted (Refused why)) _ (writer_asks law set) e)
+  refuses e = sym (verdict-refused (λ why. halted (Err why)) _ (writer_asks law set) e)
 
-  pub no_length : is_law law ≡ true → is_writer_set set ≡ true → is_length n ≡ false → halted (Refused Length) ≡ pack_all sound law set n room
+  pub no_length : is_law law ≡ true → is_writer_set set ≡ true → is_length n ≡ false → halted (Err Length) ≡ pack_all sound law set n room
   unfolding pack_all
   no_length g h k = rw (g, h, k)
 

@@ -6,8 +6,8 @@ use native.Mathlib.Omega.{arith}
 use lib.ListN.{length, take, drop, length-drop, take-append-drop}
 use lib.Seq.{length-take-le, drop-append-le}
 use Rattle.rules.specs.declared.Refusal.{Refusal}
-use Rattle.rules.specs.declared.Ending.{Ending}
-use Rattle.rules.specs.declared.Ending.TheVariants.{Done, Refused}
+use Rattle.rules.specs.Refusals.{Ending}
+use Rattle.std.proofs.Common.{Ok, Err}
 use Rattle.rules.specs.declared.WriteAnswer.{WriteAnswer}
 use Rattle.rules.specs.Chooses.{write_one}
 use Rattle.rules.specs.Calls.{at_start, Writes}
@@ -36,7 +36,7 @@ frame-put sound from to law set at out last f t h =
     }
 
 -- what was refused stays refused, and the page as lent
-pub stays-refused : (done : PackAnswer) (part : List ℕ) (law set n : ℕ) (page : List ℕ) (why : Refusal) → done.end ≡ Refused why
+pub stays-refused : (done : PackAnswer) (part : List ℕ) (law set n : ℕ) (page : List ℕ) (why : Refusal) → done.end ≡ Err why
     → PackOn done part law set n page page done
 unfolding sound_in stream_of
 stays-refused done part law set n page why q =
@@ -52,7 +52,7 @@ front-lent s page k h l =
     ∙ ap (drop (length s)) (take-append-drop k page))
 
 -- a part packed into as much of the page as the longest stream has left
-pub part-packed : (done : PackAnswer) (part : List ℕ) (law set n room : ℕ) (page rest : List ℕ) {p : PackAnswer} → done.end ≡ Done
+pub part-packed : (done : PackAnswer) (part : List ℕ) (law set n room : ℕ) (page rest : List ℕ) {p : PackAnswer} → done.end ≡ Ok tt
     → room ≡ room_on done.octets (length page) → Pack part law set n (take room page) rest p
     → PackOn done part law set n page (rest ++ drop room page)
     (record { end = p.end; frames = done.frames + p.frames; samples = done.samples + p.samples; octets = done.octets + p.octets })

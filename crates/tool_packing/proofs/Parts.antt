@@ -11,8 +11,8 @@ use lib.Dec.{ltb, leb}
 use borrow.Author.Tests.{leb-true, leb-false}
 use Rattle.rules.specs.declared.Refusal.{Refusal}
 use Rattle.rules.specs.declared.Refusal.TheVariants.{Room}
-use Rattle.rules.specs.declared.Ending.{Ending}
-use Rattle.rules.specs.declared.Ending.TheVariants.{Done, Refused}
+use Rattle.rules.specs.Refusals.{Ending}
+use Rattle.std.proofs.Common.{Ok, Err}
 use Rattle.rules.specs.Tools.{is_law, is_writer_set, is_length}
 use Rattle.rules.specs.Calls.{at_start}
 use Rattle.rules.specs.Walk.{longest}
@@ -29,17 +29,17 @@ use Rattle.tool_packing.proofs.Enough.{stream-most, put-enough}
 use Rattle.tool_packing.proofs.Ordered.{packs-as, the-frames}
 
 -- frames put, and then others in the room that is left
-put-parts : (law set room : ℕ) (x y : List (List ℕ)) (end : Ending) → (put_all law set room x Done).end ≡ Done
+put-parts : (law set room : ℕ) (x y : List (List ℕ)) (end : Ending) → (put_all law set room x (Ok tt)).end ≡ Ok tt
     → put_all law set room (x ++ y) end ≡ after x (put_all law set (room - length (stream_of law set x)) y end)
 unfolding put_all stream_of
 put-parts law set room [] y end e = let z : room - 0 ≡ room = omega arith in rw z refl
 put-parts law set room (s ∷ x) y end e = go (length (form_octets law set s)) refl (ltb room (length (form_octets law set s)))
     (put-parts law set (room - length (form_octets law set s)) x y end) e
   where
-    go : (u : ℕ) → length (form_octets law set s) ≡ u → (b : Bool) → ((put_all law set (room - u) x Done).end ≡ Done
+    go : (u : ℕ) → length (form_octets law set s) ≡ u → (b : Bool) → ((put_all law set (room - u) x (Ok tt)).end ≡ Ok tt
         → put_all law set (room - u) (x ++ y) end ≡ after x (put_all law set (room - u - length (stream_of law set x)) y end))
-        → (cond b (halted (Refused Room)) (before s (put_all law set (room - u) x Done))).end ≡ Done
-        → cond b (halted (Refused Room)) (before s (put_all law set (room - u) (x ++ y) end))
+        → (cond b (halted (Err Room)) (before s (put_all law set (room - u) x (Ok tt)))).end ≡ Ok tt
+        → cond b (halted (Err Room)) (before s (put_all law set (room - u) (x ++ y) end))
         ≡ after (s ∷ x) (put_all law set (room - length (form_octets law set s ++ stream_of law set x)) y end)
     go u q true ih e = not_done Room e
     go u q false ih e =
@@ -48,18 +48,18 @@ put-parts law set room (s ∷ x) y end e = go (length (form_octets law set s)) r
         ap (before s) (ih e) ∙ ap (λ (r : ℕ). after (s ∷ x) (put_all law set r y end)) left
 
 -- where one of them does not fit, nothing after them matters
-put-stays : (law set room : ℕ) (x y : List (List ℕ)) (end : Ending) → ((put_all law set room x Done).end ≡ Done → ⊥)
-    → put_all law set room (x ++ y) end ≡ put_all law set room x Done
+put-stays : (law set room : ℕ) (x y : List (List ℕ)) (end : Ending) → ((put_all law set room x (Ok tt)).end ≡ Ok tt → ⊥)
+    → put_all law set room (x ++ y) end ≡ put_all law set room x (Ok tt)
 unfolding put_all
 put-stays law set room [] y end h = absurd (h refl)
 put-stays law set room (s ∷ x) y end h = go (length (form_octets law set s)) (ltb room (length (form_octets law set s)))
     (put-stays law set (room - length (form_octets law set s)) x y end) h
   where
     go : (u : ℕ) (b : Bool)
-        → (((put_all law set (room - u) x Done).end ≡ Done → ⊥) → put_all law set (room - u) (x ++ y) end ≡ put_all law set (room - u) x Done)
-        → ((cond b (halted (Refused Room)) (before s (put_all law set (room - u) x Done))).end ≡ Done → ⊥)
-        → cond b (halted (Refused Room)) (before s (put_all law set (room - u) (x ++ y) end))
-        ≡ cond b (halted (Refused Room)) (before s (put_all law set (room - u) x Done))
+        → (((put_all law set (room - u) x (Ok tt)).end ≡ Ok tt → ⊥) → put_all law set (room - u) (x ++ y) end ≡ put_all law set (room - u) x (Ok tt))
+        → ((cond b (halted (Err Room)) (before s (put_all law set (room - u) x (Ok tt)))).end ≡ Ok tt → ⊥)
+        → cond b (halted (Err Room)) (before s (put_all law set (room - u) (x ++ y) end))
+        ≡ cond b (halted (Err Room)) (before s (put_all law set (room - u) x (Ok tt)))
     go u true ih h = refl
     go u false ih h = ap (before s) (ih h)
 
@@ -93,7 +93,7 @@ page-enough b law set n page left l o i c h = go (leb page left) refl
     go false e = ap (pack_all b law set n) (omega (arith, leb-false page left e))
 
 module _ (a b : List ℕ) (law set n k room : ℕ) (m : length a ≡ k * n) where
-  end-multiple : is_length n ≡ true → end_of n a ≡ Done
+  end-multiple : is_length n ≡ true → end_of n a ≡ Ok tt
   unfolding end_of last_end
   end-multiple i = let z : length a - length (sound_in (cuts n a)) ≡ 0 = omega (arith, ap length (cuts-multiple n k a i m)) in rw z refl
 
@@ -120,11 +120,11 @@ module _ (a b : List ℕ) (law set n k room : ℕ) (m : length a ≡ k * n) wher
       ∙ ap (put_all law set room (cuts n a ++ cuts n b)) (end-parts i)
 
   first-is : is_law law ≡ true → is_writer_set set ≡ true → is_length n ≡ true
-      → pack_all a law set n room ≡ put_all law set room (cuts n a) Done
+      → pack_all a law set n room ≡ put_all law set room (cuts n a) (Ok tt)
   first-is l o i = sym (the-frames a law set n room l o i) ∙ ap (put_all law set room (cuts n a)) (end-multiple i)
 
   -- a part that was packed well, and then the rest in the room that is left
-  pub pack-parts : (pack_all a law set n room).end ≡ Done → pack_all (a ++ b) law set n room
+  pub pack-parts : (pack_all a law set n room).end ≡ Ok tt → pack_all (a ++ b) law set n room
       ≡ after (pack_all a law set n room).frames (pack_all b law set n (room - length (stream_of law set (pack_all a law set n room).frames)))
   pack-parts e =
       let w = well-packed a law set n room e in
@@ -135,7 +135,7 @@ module _ (a b : List ℕ) (law set n k room : ℕ) (m : length a ≡ k * n) wher
       ∙ ap (after (cuts n a)) (the-frames b law set n left w.lawful w.odd w.allowed))
 
   -- a part that was refused: nothing after it matters
-  pub pack-stays : ((pack_all a law set n room).end ≡ Done → ⊥) → pack_all (a ++ b) law set n room ≡ pack_all a law set n room
+  pub pack-stays : ((pack_all a law set n room).end ≡ Ok tt → ⊥) → pack_all (a ++ b) law set n room ≡ pack_all a law set n room
   pack-stays h = go (is_law law) refl (is_writer_set set) refl (is_length n) refl
     where
       go : (x : Bool) → is_law law ≡ x → (y : Bool) → is_writer_set set ≡ y → (z : Bool) → is_length n ≡ z
@@ -157,7 +157,7 @@ file-of : (stream file : List ℕ) → file ≡ stream → file ≡ at_start str
 file-of stream file e = e ∙ sym (ap (λ (x : List ℕ). stream ++ x) (drop-nil (length stream)) ∙ append-nil stream)
 
 -- packing no sound, where that is not refused, leaves a file with nothing in it
-pub begun : (law set n : ℕ) (page page' : List ℕ) {r : PackAnswer} → Pack [] law set n page page' r → r.end ≡ Done
+pub begun : (law set n : ℕ) (page page' : List ℕ) {r : PackAnswer} → Pack [] law set n page page' r → r.end ≡ Ok tt
     → PackFile [] law set n [] r
 unfolding put_all stream_of
 begun law set n page page' p e =
@@ -180,7 +180,7 @@ added {law} {set} {p} {done} {r} {page} t =
 
 -- an answer, and nothing after it
 stayed : {law set : ℕ} {p : Packed} {why : Refusal} {done r : PackAnswer} {file page page' : List ℕ}
-    → Packs law set p done [] file → done.end ≡ Refused why → PacksAfter done law set (halted (Refused why)) page page' r
+    → Packs law set p done [] file → done.end ≡ Err why → PacksAfter done law set (halted (Err why)) page page' r
     → Packs law set p r [] (file ++ take (r.octets - done.octets) page')
 unfolding sound_in stream_of
 stayed {file = file} f q t =
@@ -224,11 +224,11 @@ carried_on a b law set n k file page page' {done} {r} m c h f g = go done.end re
   where
     go : (e : Ending) → done.end ≡ e → PacksAfter done law set (packed_on e b law set n (room_on done.octets (length page))) page page' r
         → PackFile (a ++ b) law set n (file ++ take (r.octets - done.octets) page') r
-    go (Refused why) q t =
-        let h : (pack_all a law set n longest).end ≡ Refused why = sym f.end ∙ q in
+    go (Err why) q t =
+        let h : (pack_all a law set n longest).end ≡ Err why = sym f.end ∙ q in
         packs-as (sym (pack-stays a b law set n k longest m (λ e. not_done why (sym h ∙ e)))) (stayed f q t)
-    go Done q t =
-        let e : (pack_all a law set n longest).end ≡ Done = sym f.end ∙ q in
+    go (Ok tt) q t =
+        let e : (pack_all a law set n longest).end ≡ (Ok _) = sym f.end ∙ q in
         let w = well-packed a law set n longest e in
         let left = longest - length (stream_of law set (pack_all a law set n longest).frames) in
         let same : pack_all b law set n (room_on done.octets (length page)) ≡ pack_all b law set n left

@@ -10,8 +10,8 @@ use lib.Dec.{eqb, ltb}
 use borrow.Author.Tests.{le-ltb, lt-ltb, ltb-true, ltb-false}
 use Rattle.rules.specs.declared.Refusal.{Refusal}
 use Rattle.rules.specs.declared.Refusal.TheVariants.{Room}
-use Rattle.rules.specs.declared.Ending.{Ending}
-use Rattle.rules.specs.declared.Ending.TheVariants.{Done, Refused}
+use Rattle.rules.specs.Refusals.{Ending}
+use Rattle.std.proofs.Common.{Ok, Err}
 use Rattle.rules.specs.declared.WriteAnswer.{WriteAnswer}
 use Rattle.rules.specs.Tools.{is_law, is_writer_set, is_length}
 use Rattle.rules.specs.Bits.{octets_for, octets_from, pack}
@@ -58,7 +58,7 @@ unfolding put_all
 put_on law set room left s frames end h e = rw (le-ltb room (length (form_octets law set s)) h, e)
 
 put-no-room : (law set room : ℕ) (s : List ℕ) (frames : List (List ℕ)) (end : Ending)
-    → room < length (form_octets law set s) → put_all law set room (s ∷ frames) end ≡ halted (Refused Room)
+    → room < length (form_octets law set s) → put_all law set room (s ∷ frames) end ≡ halted (Err Room)
 unfolding put_all
 put-no-room law set room s frames end h = rw (lt-ltb room (length (form_octets law set s)) h)
 
@@ -136,11 +136,11 @@ module _ (sound : List ℕ) (law set n : ℕ) (out₀ : List ℕ) where
       -- a frame that does not fit
       no_room : {out' rest : List ℕ} → length out₀ - at < length (form_octets law set s)
           → rest ≡ drop at out → out' ≡ take at out ++ rest
-          → Packs law set packed (record { end = Refused Room; frames = count; samples = from; octets = at }) out₀ out'
+          → Packs law set packed (record { end = Err Room; frames = count; samples = from; octets = at }) out₀ out'
       no_room {out'} {rest} k f g =
-          subst (λ (x : List ℕ). Packs law set packed (record { end = Refused Room; frames = count; samples = from; octets = at }) out₀ x)
+          subst (λ (x : List ℕ). Packs law set packed (record { end = Err Room; frames = count; samples = from; octets = at }) out₀ x)
           (sym (lent_same w.kept g f))
-          (pack-stop w (Refused Room)
+          (pack-stop w (Err Room)
           (ap (λ (x : List (List ℕ)). put_all law set (length out₀ - at) x (end_of n sound)) next-cut
           ∙ put-no-room law set (length out₀ - at) s (cuts n (drop to sound)) (end_of n sound) k))
 
@@ -174,7 +174,7 @@ module _ (sound : List ℕ) (law set n : ℕ) (out₀ : List ℕ) where
             let d : to - from ≡ l = omega (arith, e) in
             rw (d, lent_length w.kept, write-is law set l (length out₀ - at) s i o fits.allowed s-length) at p.writes
 
-        pub pack-turn : r.end ≡ Done → Packing out' to (at + r.octets) (count + 1)
+        pub pack-turn : r.end ≡ Ok tt → Packing out' to (at + r.octets) (count + 1)
         pack-turn q = go (ltb (length out₀ - at) (length (form_octets law set s))) refl written-here
           where
             go : (b : Bool) → ltb (length out₀ - at) (length (form_octets law set s)) ≡ b
@@ -184,13 +184,13 @@ module _ (sound : List ℕ) (law set n : ℕ) (out₀ : List ℕ) where
             go false f t = put r.octets (ltb-false (length out₀ - at) (length (form_octets law set s)) f)
                 (t.octets ∙ sym (form-length law set s)) (t.lent ∙ form-lent law set s (drop at out)) p.lent
 
-        pub pack-refused : (why : Refusal) → r.end ≡ Refused why
-            → Packs law set packed (record { end = Refused why; frames = count; samples = from; octets = at }) out₀ out'
+        pub pack-refused : (why : Refusal) → r.end ≡ Err why
+            → Packs law set packed (record { end = Err why; frames = count; samples = from; octets = at }) out₀ out'
         pack-refused why q = go (ltb (length out₀ - at) (length (form_octets law set s))) refl written-here
           where
             go : (b : Bool) → ltb (length out₀ - at) (length (form_octets law set s)) ≡ b
                 → Writes (cond b (declined Room) (wrote (chosen (mask_of law) set s))) r (drop at out) p.rest
-                → Packs law set packed (record { end = Refused why; frames = count; samples = from; octets = at }) out₀ out'
+                → Packs law set packed (record { end = Err why; frames = count; samples = from; octets = at }) out₀ out'
             go true f t =
                 let d = t.end in
                 let same : Room ≡ why = cc in

@@ -9,8 +9,8 @@ use lib.Dec.{eqb, ltb}
 use borrow.Author.Tests.{ltb-false, eqb-true, not-false}
 use Rattle.rules.specs.declared.Refusal.{Refusal}
 use Rattle.rules.specs.declared.Refusal.TheVariants.{Room, Length, Set, Law}
-use Rattle.rules.specs.declared.Ending.{Ending}
-use Rattle.rules.specs.declared.Ending.TheVariants.{Done, Refused}
+use Rattle.rules.specs.Refusals.{Ending}
+use Rattle.std.proofs.Common.{Ok, Err}
 use Rattle.rules.specs.Tools.{is_law, is_writer_set, is_length}
 use Rattle.tool_packing.specs.declared.packing.PackAnswer.{PackAnswer}
 use Rattle.tool_packing.specs.Cuts.{cuts, sound_in, last_end, end_of}
@@ -38,8 +38,8 @@ put-bounds law set room (s ∷ frames) end =
         → Bounds (length frames) (length (sound_in frames)) (room - length (form_octets law set s))
         (put_all law set (room - length (form_octets law set s)) frames end) law set
         → Bounds (suc (length frames)) (length (s ++ sound_in frames)) room
-        (cond b (halted (Refused Room)) (before s (put_all law set (room - length (form_octets law set s)) frames end))) law set
-    go true e h = none_kept law set room (suc (length frames)) (length (s ++ sound_in frames)) (Refused Room)
+        (cond b (halted (Err Room)) (before s (put_all law set (room - length (form_octets law set s)) frames end))) law set
+    go true e h = none_kept law set room (suc (length frames)) (length (s ++ sound_in frames)) (Err Room)
     go false e h =
         let rest = (put_all law set (room - length (form_octets law set s)) frames end).frames in
         record {
@@ -64,9 +64,9 @@ pack-bounds sound law set n room =
     let P : Packed → Type 0 = λ p. Bounds (length sound) (length sound) room p law set in
     let none : (e : Ending) → P (halted e) = λ e. none_kept law set room (length sound) (length sound) e in
     let b = put-bounds law set room (cuts n sound) (end_of n sound) in
-    guarded P (not (is_law law)) (none (Refused Law))
-    (guarded P (not (is_writer_set set)) (none (Refused Set))
-    (guarded P (not (is_length n)) (none (Refused Length))
+    guarded P (not (is_law law)) (none (Err Law))
+    (guarded P (not (is_writer_set set)) (none (Err Set))
+    (guarded P (not (is_length n)) (none (Err Length))
     (record {
       frames-most = omega (arith, b.frames-most, cuts-few n sound);
       samples-most = omega (arith, b.samples-most, cuts-inside n sound);
@@ -74,21 +74,21 @@ pack-bounds sound law set n room =
     })))
 
 -- A packing that ended well
-pub not_done : {A : Type 0} (why : Refusal) → Refused why ≡ Done → A
+pub not_done : {A : Type 0} (why : Refusal) → ◌≡◌ {A = Ending} (Err why) (Ok tt) → A
 not_done why e = let z : ◌≡◌ {A = ℕ} 0 1 = cc in absurd (omega arith)
 
-put-done : (law set room : ℕ) (frames : List (List ℕ)) (end : Ending) → (put_all law set room frames end).end ≡ Done
-    → ((put_all law set room frames end).frames ≡ frames) × (end ≡ Done)
+put-done : (law set room : ℕ) (frames : List (List ℕ)) (end : Ending) → (put_all law set room frames end).end ≡ Ok tt
+    → ((put_all law set room frames end).frames ≡ frames) × (end ≡ Ok tt)
 unfolding put_all
 put-done law set room [] end e = (refl, e)
 put-done law set room (s ∷ frames) end e = go (ltb room (length (form_octets law set s)))
     (put-done law set (room - length (form_octets law set s)) frames end) e
   where
-    go : (b : Bool) → ((put_all law set (room - length (form_octets law set s)) frames end).end ≡ Done
-        → ((put_all law set (room - length (form_octets law set s)) frames end).frames ≡ frames) × (end ≡ Done))
-        → (cond b (halted (Refused Room)) (before s (put_all law set (room - length (form_octets law set s)) frames end))).end ≡ Done
-        → ((cond b (halted (Refused Room)) (before s (put_all law set (room - length (form_octets law set s)) frames end))
-        ).frames ≡ s ∷ frames) × (end ≡ Done)
+    go : (b : Bool) → ((put_all law set (room - length (form_octets law set s)) frames end).end ≡ Ok tt
+        → ((put_all law set (room - length (form_octets law set s)) frames end).frames ≡ frames) × (end ≡ Ok tt))
+        → (cond b (halted (Err Room)) (before s (put_all law set (room - length (form_octets law set s)) frames end))).end ≡ Ok tt
+        → ((cond b (halted (Err Room)) (before s (put_all law set (room - length (form_octets law set s)) frames end))
+        ).frames ≡ s ∷ frames) × (end ≡ Ok tt)
     go true ih e = not_done Room e
     go false ih e = let h = ih e in (ap (λ (x : List (List ℕ)). s ∷ x) h.0, h.1)
 
@@ -100,26 +100,26 @@ pub record WellPacked (sound : List ℕ) (law set n : ℕ) (p : Packed) : Type 0
   pub frames : p.frames ≡ cuts n sound
   pub sound-whole : sound_in p.frames ≡ sound
 
-guard : (b : Bool) (why : Refusal) (y : Packed) → (cond b (halted (Refused why)) y).end ≡ Done
-    → (b ≡ false) × (y.end ≡ Done) × (cond b (halted (Refused why)) y ≡ y)
+guard : (b : Bool) (why : Refusal) (y : Packed) → (cond b (halted (Err why)) y).end ≡ Ok tt
+    → (b ≡ false) × (y.end ≡ Ok tt) × (cond b (halted (Err why)) y ≡ y)
 guard true why y e = not_done why e
 guard false why y e = (refl, e, refl)
 
-last_done : (left : ℕ) → last_end left ≡ Done → left ≡ 0
+last_done : (left : ℕ) → last_end left ≡ Ok tt → left ≡ 0
 unfolding last_end
 last_done left e = go (eqb left 0) refl e
   where
-    go : (b : Bool) → eqb left 0 ≡ b → cond b Done (Refused Length) ≡ Done → left ≡ 0
+    go : (b : Bool) → eqb left 0 ≡ b → ◌≡◌ {A = Ending} (cond b (Ok tt) (Err Length)) (Ok tt) → left ≡ 0
     go true q e = eqb-true left 0 q
     go false q e = not_done Length e
 
-pub well-packed : (sound : List ℕ) (law set n room : ℕ) → (pack_all sound law set n room).end ≡ Done
+pub well-packed : (sound : List ℕ) (law set n room : ℕ) → (pack_all sound law set n room).end ≡ Ok tt
     → WellPacked sound law set n (pack_all sound law set n room)
 unfolding pack_all end_of
 well-packed sound law set n room e =
     let put = put_all law set room (cuts n sound) (end_of n sound) in
-    let timed = cond (not (is_length n)) (halted (Refused Length)) put in
-    let toolled = cond (not (is_writer_set set)) (halted (Refused Set)) timed in
+    let timed = cond (not (is_length n)) (halted (Err Length)) put in
+    let toolled = cond (not (is_writer_set set)) (halted (Err Set)) timed in
     let a = guard (not (is_law law)) Law toolled e in
     let b = guard (not (is_writer_set set)) Set timed a.1 in
     let c = guard (not (is_length n)) Length put b.1 in

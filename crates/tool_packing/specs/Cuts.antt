@@ -1,8 +1,8 @@
 -- Where a sound is cut into frames, how it ends, and a sound filled up.
 use Rattle.std.specs.Prelude.{ℕ, zero, suc, ◌+◌, ◌-◌, ◌%◌, min, ◌≡◌, List, [], ◌∷◌, ◌++◌, cond, length, take, drop, replicate, eqb, leb}
 use Rattle.rules.specs.declared.Refusal.TheVariants.{Length}
-use Rattle.rules.specs.declared.Ending.{Ending}
-use Rattle.rules.specs.declared.Ending.TheVariants.{Done, Refused}
+use Rattle.rules.specs.Refusals.{Ending}
+use Rattle.std.specs.Prelude.{Ok, Err}
 use Rattle.rules.specs.Samples.{mask_of, plus_zero}
 
 -- of the five lengths the largest that is at most `most`; 0 where none is
@@ -36,7 +36,7 @@ sound_in (s ∷ frames) = s ++ sound_in frames
 
 -- how a sound ends: well where its cuts are all of it; octets left that no length fits are LENGTH
 unfoldable pub last_end : ℕ → Ending
-last_end left = cond (eqb left 0) Done (Refused Length)
+last_end left = cond (eqb left 0) (Ok tt) (Err Length)
 
 unfoldable pub end_of : ℕ → List ℕ → Ending
 end_of n sound = last_end (length sound - length (sound_in (cuts n sound)))

@@ -1,8 +1,8 @@
 -- A sound packed into a stream of frames: what its stream is, and how packing ends.
 use Rattle.std.specs.Prelude.{ℕ, ◌-◌, ◌≡◌, List, [], ◌∷◌, ◌++◌, cond, not, length, ltb}
 use Rattle.rules.specs.declared.Refusal.TheVariants.{Room, Length}
-use Rattle.rules.specs.declared.Ending.{Ending}
-use Rattle.rules.specs.declared.Ending.TheVariants.{Refused}
+use Rattle.rules.specs.Refusals.{Ending}
+use Rattle.std.specs.Prelude.{Err}
 use Rattle.rules.specs.Refusals.{judged}
 use Rattle.rules.specs.Tools.{writer_asks, is_length}
 use Rattle.rules.specs.Bits.{pack}
@@ -38,14 +38,14 @@ before s p = record { frames = s ∷ p.frames; end = p.end }
 unfoldable pub put_all : ℕ → ℕ → ℕ → List (List ℕ) → Ending → Packed
 put_all law set room [] end = halted end
 put_all law set room (s ∷ frames) end =
-    cond (ltb room (length (form_octets law set s))) (halted (Refused Room))
+    cond (ltb room (length (form_octets law set s))) (halted (Err Room))
     (before s (put_all law set (room - length (form_octets law set s)) frames end))
 
 -- "LAW, SET, then LENGTH"; then frame by frame from the start
 unfoldable pub pack_all : List ℕ → ℕ → ℕ → ℕ → ℕ → Packed
 pack_all sound law set n room =
-    judged (writer_asks law set) (λ why. halted (Refused why))
-    (cond (not (is_length n)) (halted (Refused Length))
+    judged (writer_asks law set) (λ why. halted (Err why))
+    (cond (not (is_length n)) (halted (Err Length))
     (put_all law set room (cuts n sound) (end_of n sound)))
 
 -- what packing reports: the frames packed, the sound in them and their octets, which stand at the output's start; the rest is as lent

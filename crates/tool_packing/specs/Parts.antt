@@ -1,8 +1,8 @@
 -- A frame written on its way, packing that stops before any frame, and packing in parts.
 use Rattle.std.specs.Prelude.{ℕ, ◌+◌, ◌-◌, min, ◌≡◌, List, ◌++◌, length, take, drop}
 use Rattle.rules.specs.declared.Refusal.{Refusal}
-use Rattle.rules.specs.declared.Ending.{Ending}
-use Rattle.rules.specs.declared.Ending.TheVariants.{Done, Refused}
+use Rattle.rules.specs.Refusals.{Ending}
+use Rattle.std.specs.Prelude.{Ok, Err}
 use Rattle.rules.specs.declared.WriteAnswer.{WriteAnswer}
 use Rattle.rules.specs.Chooses.{write_one}
 use Rattle.rules.specs.Calls.{at_start, Writes}
@@ -18,15 +18,15 @@ pub record PutsFrame (sound : List ℕ) (from len law set at : ℕ) (out out' : 
   pub lent : out' ≡ take at out ++ rest
 
 pub record StopsAtOnce (why : Refusal) (r : PackAnswer) : Type 0 where
-  pub end : r.end ≡ Refused why
+  pub end : r.end ≡ Err why
   pub frames : r.frames ≡ 0
   pub samples : r.samples ≡ 0
   pub octets : r.octets ≡ 0
 
 -- what comes after what was packed so far: nothing where that was refused, else the part
 abbrev pub packed_on : Ending → List ℕ → ℕ → ℕ → ℕ → ℕ → Packed
-packed_on (Refused why) part law set n room = halted (Refused why)
-packed_on Done part law set n room = pack_all part law set n room
+packed_on (Err why) part law set n room = halted (Err why)
+packed_on (Ok _) part law set n room = pack_all part law set n room
 
 -- the room of the next part: the page's, but no more than the longest stream has left
 abbrev pub room_on : ℕ → ℕ → ℕ

@@ -1,7 +1,7 @@
 -- A sound in parts, as the tool reads it.
 use Rattle.std.specs.Prelude.{ℕ, Bool, false, cond, eqb}
-use Rattle.rules.specs.declared.Ending.{Ending}
-use Rattle.rules.specs.declared.Ending.TheVariants.{Done, Refused}
+use Rattle.rules.specs.Refusals.{Ending}
+use Rattle.std.specs.Prelude.{Ok, Err}
 use Rattle.rules.specs.Refusals.{number_of}
 
 -- the octets of a part: a multiple of every frame length, and of 40
@@ -10,8 +10,8 @@ part_size = 61440
 
 -- a part that is full may have more after it; after a refusal nothing matters
 abbrev pub goes_on : Ending → ℕ → Bool
-goes_on Done count = eqb count part_size
-goes_on (Refused why) count = false
+goes_on (Ok _) count = eqb count part_size
+goes_on (Err why) count = false
 
 -- the room is the longest stream, so ROOM (4) is LONG (13) here
 abbrev pub number_for : Ending → ℕ

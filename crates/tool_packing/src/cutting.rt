@@ -6,46 +6,38 @@ ghost use Rattle.tool_packing.specs.SoundParts.{goes_on, number_for};
 
 use rules::{Ending, Refusal};
 
-// Of the five lengths the largest that is at most `most`; 0 where none is.
+// Of the five lengths the largest that is at most `most`; 0 where none is, as the definitions of the cuts have it.
+#[tactic(auto, unfolding(crate::specs::Cuts::largest_up_to))]
 fn largest_up_to(most: usize) -> usize
     ensures { result ≡ largest_up_to most }
 {
-    if 320 <= most {
-        return 320;
+    match most {
+        320.. => 320,
+        240.. => 240,
+        160.. => 160,
+        80.. => 80,
+        40.. => 40,
+        _ => 0,
     }
-    if 240 <= most {
-        return 240;
-    }
-    if 160 <= most {
-        return 160;
-    }
-    if 80 <= most {
-        return 80;
-    }
-    if 40 <= most {
-        return 40;
-    }
-    0
 }
 
 // The next frame's length: at most the frame length and at most the sound left.
+// 0 where no length fits: the theorems `cuts-parts` and `pack-walk` speak of it so.
 pub fn next_length(n: usize, left: usize) -> usize
     ensures { result ≡ next_length n left }
 {
-    if n <= left {
-        return largest_up_to(n);
-    }
-    largest_up_to(left)
+    largest_up_to(n.min(left))
 }
 
 // How a sound ends with so many octets left that no length fits.
+#[tactic(auto, unfolding(crate::specs::Cuts::last_end))]
 pub fn last_end(left: usize) -> Ending
     ensures { result ≡ last_end left }
 {
-    if left == 0 {
-        return Ending::Done;
+    match left {
+        0 => Ok(()),
+        _ => Err(Refusal::Length),
     }
-    Ending::Refused(Refusal::Length)
 }
 
 // Plus zeros after the first `len` octets, up to the next multiple of 40, which every end of a sound can be cut into. Answers how many.
@@ -55,11 +47,7 @@ pub fn fill_up(sound: &mut [u8], len: usize, law: u32) -> usize
 {
     let plus = law::plus_zero(law::mask_of(law));
     let more = (40 - len % 40) % 40;
-    let mut i = 0;
-    while i < more {
-        sound[len + i] = plus;
-        i += 1;
-    }
+    sound[len..len + more].fill(plus);
     more
 }
 
@@ -67,19 +55,15 @@ pub fn fill_up(sound: &mut [u8], len: usize, law: u32) -> usize
 pub fn may_go_on(end: Ending, count: usize) -> bool
     ensures { result ≡ goes_on end count }
 {
-    let Ending::Done = end else {
-        return false;
-    };
-    count == 61440
+    end.is_ok() && count == 61440
 }
 
 // The room is the longest stream, so ROOM is LONG here.
 pub fn number_for(end: Ending) -> u32
     ensures { result ≡ number_for end }
 {
-    let number = rules::number_of(end);
-    if number == 4 {
-        return 13;
+    match rules::number_of(end) {
+        4 => 13,
+        number => number,
     }
-    number
 }

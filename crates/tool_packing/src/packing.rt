@@ -45,15 +45,13 @@ fn frames(sound: &[u8], law: u32, set: u32, n: usize, out: &mut [u8]) -> PackAns
         let left = sound.len() - from;
         let len = next_length(n, left);
         if len == 0 {
-            let e = last_end(left);
-            break 'frames e;
+            break 'frames last_end(left);
         }
         let to = from + len;
         let r = put_frame(sound, from, to, law, set, out, at);
-        let e = r.end;
-        match e {
-            Ending::Refused(why) => break 'frames Ending::Refused(why),
-            Ending::Done => {
+        match r.end {
+            Err(why) => break 'frames Err(why),
+            Ok(()) => {
                 from = to;
                 at += r.octets;
                 count += 1;
@@ -73,7 +71,7 @@ fn stopped(why: Refusal) -> PackAnswer
     ensures { StopsAtOnce why result }
 {
     PackAnswer {
-        end: Ending::Refused(why),
+        end: Err(why),
         frames: 0,
         samples: 0,
         octets: 0,
@@ -85,13 +83,9 @@ pub fn pack(sound: &[u8], law: u32, set: u32, n: usize, out: &mut [u8]) -> PackA
     ensures { Pack sound.now law set n out.old out.new result }
 {
     match rules::guard_writer(law, set) {
-        Ending::Refused(why) => stopped(why),
-        Ending::Done => {
-            if !rules::is_length(n) {
-                return stopped(Refusal::Length);
-            }
-            frames(sound, law, set, n, out)
-        }
+        Err(why) => stopped(why),
+        Ok(()) if !rules::is_length(n) => stopped(Refusal::Length),
+        Ok(()) => frames(sound, law, set, n, out),
     }
 }
 
@@ -100,11 +94,7 @@ fn room_on(octets: usize, page: usize) -> usize
     requires { octets ≤ longest }
     ensures { result ≡ room_on octets page }
 {
-    let left = LONGEST - octets;
-    if left < page {
-        return left;
-    }
-    page
+    page.min(LONGEST - octets)
 }
 
 // The next part of a sound, into a page whose octets then follow those packed so far; ROOM where the stream would be longer than the
@@ -121,15 +111,13 @@ pub fn pack_on(
     requires { (done.octets ≤ longest) × (done.frames + length part.now < 2 ^ 64) × (done.samples + length part.now < 2 ^ 64) }
     ensures { PackOn done part.now law set n page.old page.new result }
 {
-    let e = done.end;
-    let Ending::Done = e else {
+    if done.end.is_err() {
         return done;
-    };
+    }
     let room = room_on(done.octets, page.len());
     let p = pack(part, law, set, n, &mut page[..room]);
-    let end = p.end;
     PackAnswer {
-        end,
+        end: p.end,
         frames: done.frames + p.frames,
         samples: done.samples + p.samples,
         octets: done.octets + p.octets,

@@ -7,15 +7,14 @@ use mathlib.Core.Path.{◌≡◌, refl, sym, ap, ◌∙◌}
 use mathlib.Core.List.{List, [], ◌∷◌, ◌++◌, map-append}
 use mathlib.Core.Bool.{Bool, true, false}
 use lib.ListN.{length, length-map}
-use Rattle.rules.specs.declared.Ending as rules
-use Rattle.rules.specs.declared.Ending.TheVariants as ends
+use Rattle.rules.specs.Refusals as rules
+use Rattle.std.proofs.Common.{Ok, Err}
 use Rattle.rules.specs.Walk.{Delivered, Walked, walk_from, walk_all, samples_kept}
 use Rattle.rules.specs.declared.WalkAnswer.{WalkAnswer}
 use Rattle.rules.specs.Calls.{Walks}
 use Rattle.rules.proofs.Walk as walk
 use Rattle.promises.proofs.Walks.{Walkable, walk-all}
-use Rattle.recording.specs.declared.Ending.{Ending}
-use Rattle.recording.specs.declared.Ending.TheVariants.{Done}
+use Rattle.recording.specs.Endings.{Ending}
 use Rattle.recording.specs.Items.{Item, sound, Recorded, stopped, sound_in}
 use Rattle.recording_read.proofs.Steps.{after, items-ended}
 use Rattle.recording_read.proofs.Parts.{by_end, Roomy, items-told, items-parts, items-fuel, items-roomy}
@@ -49,9 +48,9 @@ frames-heard {w} t e =
       lent = rw (frames-sound w.frames) t.lent;
     }
 
-ends-clean : (e : rules.Ending) → end_of e ≡ Done → e ≡ ends.Done
-ends-clean ends.Done q = refl
-ends-clean (ends.Refused why) q = let z : ◌≡◌ {A = ℕ} 0 1 = cc in absurd (omega arith)
+ends-clean : (e : rules.Ending) → end_of e ≡ Ok tt → e ≡ Ok tt
+ends-clean (Ok _) q = refl
+ends-clean (Err why) q = let z : ◌≡◌ {A = ℕ} 0 1 = cc in absurd (omega arith)
 
 module _ (octets : List ℕ) (law set : ℕ) where
   -- what is true of every reading
@@ -62,8 +61,8 @@ module _ (octets : List ℕ) (law set : ℕ) where
     pub some : at + length r.items ≤ r.place
     pub inside : at ≤ length octets → r.place ≤ length octets
     -- it ended clean: all items that are allowed are there, or it is at the end
-    pub all : r.end ≡ Done → length r.items < n → length octets ≤ r.place
-    pub clean : r.end ≡ Done → r.bit ≡ 0
+    pub all : r.end ≡ Ok tt → length r.items < n → length octets ≤ r.place
+    pub clean : r.end ≡ Ok tt → r.bit ≡ 0
 
   walk-heard : (n at room : ℕ) → Told n at room (streamed (walk_from n octets law set at room))
   walk-heard n at room =
@@ -88,7 +87,7 @@ module _ (octets : List ℕ) (law set : ℕ) where
       record { fits = t.fits; held = t.held; few = t.few; some = t.some; inside = t.inside; all = t.all; clean = t.clean }
   heard-told false n at room places = walk-heard n at room
 
-  pub heard-ended : (b : Bool) (n at room places : ℕ) → length octets ≤ at → heard_as b n octets law set at room places ≡ stopped Done at 0
+  pub heard-ended : (b : Bool) (n at room places : ℕ) → length octets ≤ at → heard_as b n octets law set at room places ≡ stopped (Ok tt) at 0
   unfolding heard_as
   heard-ended true n at room places h = items-ended octets law set n at room places h
   heard-ended false n at room places h = ap streamed (walk.walk-ended octets law set n at room h)
@@ -101,12 +100,12 @@ module _ (octets : List ℕ) (law set : ℕ) where
   walk-onward : (w : Walked) (n room places : ℕ) (e : rules.Ending)
       → streamed (walk.by_end e (walk.on_from octets law set n room w) w) ≡ by_end (end_of e) (on_from false n room places (streamed w)) (streamed w)
   unfolding heard_as
-  walk-onward w n room places ends.Done =
+  walk-onward w n room places (Ok tt) =
       let v = walk_from n octets law set w.place (room - length (samples_kept w.frames)) in
       rw (frames-sound w.frames)
       (ap (λ (l : List Item). record { items = l; end = end_of v.end; place = v.place; bit = v.bit })
       (map-append (λ (d : Delivered). sound d.found) w.frames v.frames))
-  walk-onward w n room places (ends.Refused why) = refl
+  walk-onward w n room places (Err why) = refl
 
   -- a reading of m + n items is one of m items and, where that ended clean, one of n items from its place on, with the room and places left
   pub heard-parts : (b : Bool) (m n at room places : ℕ) → heard_as b (m + n) octets law set at room places

@@ -14,7 +14,7 @@ use Rattle.rules.specs.Reading.{Read, whole, refuse}
 use Rattle.rules.specs.Frame.{Found, octets_used, read_one}
 use Rattle.promises.proofs.Further.{looks-no-further}
 use Rattle.promises.proofs.Refused.{cut_at}
-use Rattle.recording.specs.declared.Ending.TheVariants.{Done}
+use Rattle.std.proofs.Common.{Ok}
 use Rattle.recording.specs.Remembered.{lost_octet}
 use Rattle.recording.specs.Items.{Item, lost, Recorded, before, items_from, sound_of, sound_in}
 use Rattle.recording_read.specs.Turns.{takes, frame_step, item_step}
@@ -62,7 +62,7 @@ step_stays w law set p at room z {i} {used} h e k q = go (eqb (get_or w at 0) lo
 
 -- the items up to where a reading ended, and there an end
 abbrev up_to : Recorded → Recorded
-up_to r = record { items = r.items; end = Done; place = r.place; bit = 0 }
+up_to r = record { items = r.items; end = Ok tt; place = r.place; bit = 0 }
 
 -- they are read again, whatever follows
 ahead : (w : List ℕ) (law set : ℕ) (z : List ℕ) {n at room places : ℕ} {r : Recorded} → Reads w law set n at room places r
@@ -136,7 +136,7 @@ module _ (a b : List ℕ) (law set : ℕ) where
 pub played-told : (w : List ℕ) (law set : ℕ)
     → ((played w law set).place ≤ length w) × (length (played w law set).items ≤ (played w law set).place)
     × (length (sound_in (played w law set).items) ≤ 320 * length (played w law set).items)
-    × ((played w law set).end ≡ Done → (played w law set).place ≡ length w)
+    × ((played w law set).end ≡ Ok tt → (played w law set).place ≡ length w)
 played-told w law set =
     let t = items-told w law set (suc (length w)) 0 (320 * length w) (length w) in
     let inside = t.inside (omega arith) in

@@ -9,3 +9,4 @@ pub mod Running
 pub mod Joined
 pub mod Onward
 pub mod Headings
+pub mod Wells

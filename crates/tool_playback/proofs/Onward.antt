@@ -12,7 +12,7 @@ use Rattle.rules.specs.Tools.{is_law, is_set}
 use Rattle.rules.specs.Walk.{Delivered, longest, samples_kept}
 use Rattle.promises.proofs.Walks.{Walkable}
 use Rattle.promises.proofs.Joined.{walk_of, joined, cut-clean, walk-place}
-use Rattle.recording.specs.declared.Ending.TheVariants.{Done}
+use Rattle.std.proofs.Common.{Ok}
 use Rattle.recording.specs.Items.{Item, Recorded, stopped, sound_in}
 use Rattle.recording_read.proofs.Steps.{sound_in-append}
 use Rattle.tool_playback.specs.declared.parts.Reading.{Reading}
@@ -84,7 +84,7 @@ module _ (law set : ℕ) where
 
   -- a whole reading keeps inside
   all_told : (b : Bool) (w : List ℕ) → ((all b w).place ≤ length w) × (length (all b w).items ≤ (all b w).place)
-      × (length (sound_in (all b w).items) ≤ 320 * length (all b w).items) × ((all b w).end ≡ Done → (all b w).place ≡ length w)
+      × (length (sound_in (all b w).items) ≤ 320 * length (all b w).items) × ((all b w).end ≡ Ok tt → (all b w).place ≡ length w)
   all_told b w =
       let t = heard-told w law set b (suc (length w)) 0 (320 * length w) (length w) in
       let inside = t.inside (omega arith) in
@@ -105,14 +105,14 @@ module _ (law set : ℕ) where
 pub record Along (h : Reading) (a : Total) : Type 0 where
   pub done : List ℕ
   pub long : length done ≡ a.at
-  pub clean : (heard done h).end ≡ Done
+  pub clean : (heard done h).end ≡ Ok tt
   pub count : a.items ≡ length (heard done h).items
   pub losses : a.lost ≡ losses_in (heard done h).items
   pub sound : a.samples ≡ length (sound_in (heard done h).items)
 
 module _ (h : Reading) (lawful : Lawful h) where
   heard-told-all : (w : List ℕ) → ((heard w h).place ≤ length w) × (length (heard w h).items ≤ (heard w h).place)
-      × (length (sound_in (heard w h).items) ≤ 320 * length (heard w h).items) × ((heard w h).end ≡ Done → (heard w h).place ≡ length w)
+      × (length (sound_in (heard w h).items) ≤ 320 * length (heard w h).items) × ((heard w h).end ≡ Ok tt → (heard w h).place ≡ length w)
   heard-told-all w = all_told h.law h.set h.records w
 
   -- octets up to where their items ended, and then any others
@@ -120,13 +120,13 @@ module _ (h : Reading) (lawful : Lawful h) where
       → After (heard w h) (heard z h) (heard (take (heard w h).place w ++ z) h)
   heard-joined w z k = heard-after h.law h.set h.records w z lawful.0 lawful.1 k
 
-  none-heard : heard [] h ≡ stopped Done 0 0
+  none-heard : heard [] h ≡ stopped (Ok tt) 0 0
   none-heard = heard-ended [] h.law h.set h.records 1 0 0 0 (omega arith)
 
   -- octets cut where their items ended
   record Cut (w x : List ℕ) : Type 0 where
     size : length x ≡ (heard w h).place
-    clean : (heard x h).end ≡ Done
+    clean : (heard x h).end ≡ Ok tt
     count : length (heard x h).items ≡ length (heard w h).items
     losses : losses_in (heard x h).items ≡ losses_in (heard w h).items
     sound : length (sound_in (heard x h).items) ≡ length (sound_in (heard w h).items)
@@ -243,7 +243,7 @@ module _ (h : Reading) (lawful : Lawful h) where
         let here = (heard-told-all x).3 c.clean in
         let g : TellsFile x h
         (record {
-          end = Done;
+          end = Ok tt;
           at = t.at;
           bit = (heard x h).bit;
           items = t.items;

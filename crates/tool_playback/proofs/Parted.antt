@@ -15,8 +15,8 @@ use Rattle.rules.specs.Walk.{walk_from}
 use Rattle.rules.specs.Calls.{at_start}
 use Rattle.rules.specs.Chooses.{count_of}
 use Rattle.rules.proofs.Room.{read-most}
-use Rattle.recording.specs.declared.Ending.{Ending}
-use Rattle.recording.specs.declared.Ending.TheVariants.{Done, Refused}
+use Rattle.recording.specs.Endings.{Ending}
+use Rattle.std.proofs.Common.{Ok, Err}
 use Rattle.recording.specs.Remembered.{lost_octet, erased}
 use Rattle.recording.specs.Items.{Item, sound, lost, Recorded, item_of, items_from, sound_of, cell_of, loss_from}
 use Rattle.recording_read.specs.Turns.{Step, takes, stops, frame_step, item_step}
@@ -30,9 +30,9 @@ use Rattle.tool_playback.specs.Parts.{sure_items, part_of, goes_on, loss_of, los
 use Rattle.tool_playback.proofs.Heard.{frames-none, heard-told}
 
 -- more is to come only of a part that ended clean before the end
-pub more-inside : (end : Ending) (place size : ℕ) → goes_on end place size ≡ true → (end ≡ Done) × (place < size)
-more-inside Done place size e = (refl, ltb-true place size e)
-more-inside (Refused why) place size e = absurd (false≢true e)
+pub more-inside : (end : Ending) (place size : ℕ) → goes_on end place size ≡ true → (end ≡ Ok tt) × (place < size)
+more-inside (Ok _) place size e = (refl, ltb-true place size e)
+more-inside (Err why) place size e = absurd (false≢true e)
 
 -- the losses of items told as numbers are the items' own: a frame has at most 320 samples
 cell-loss : (i : Item) → length (sound_of i) ≤ 320 → cond (is_loss (cell_of i)) 1 0 ≡ loss_of i
@@ -141,7 +141,7 @@ module _ (octets : List ℕ) (h : Reading) (at : ℕ) (out cells : List ℕ) whe
   pub goes_of : {r : Part} {out' cells' : List ℕ} → NextPart octets h at out out' cells cells' r → Goes octets at out cells r
   goes_of {r} t =
       let d = heard-told octets h.law h.set h.records sure at (length out) (length cells) in
-      let on : r.more ≡ true → (part.end ≡ Done) × (part.place < length octets)
+      let on : r.more ≡ true → (part.end ≡ Ok tt) × (part.place < length octets)
       = λ m. more-inside part.end part.place (length octets) (sym t.more ∙ m) in
       let whole : r.more ≡ true → (length part.items < sure → ⊥) = λ m k. absurd (omega (arith, (on m).1, d.all (on m).0 k)) in
       record {

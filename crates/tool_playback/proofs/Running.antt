@@ -9,6 +9,7 @@ use Rattle.rules.specs.Calls.{at_start}
 use Rattle.rules.specs.Walk.{longest, walk_from}
 use Rattle.recording.specs.Items.{Item, sound, lost, sound_in, cell_of}
 use Rattle.recording_read.proofs.Steps.{sound_in-append}
+use Rattle.std.specs.Prelude.{Result}
 use Rattle.tool_sound.specs.declared.sounds.Trouble.{Trouble}
 use Rattle.tool_playback.specs.declared.parts.Reading.{Reading}
 use Rattle.tool_playback.specs.declared.parts.Point.{Point}
@@ -97,7 +98,7 @@ module _ (body : List ℕ) (h : Reading) where
       next-sound = record { done = f.done; before = f.before; lent = out; cells = cells; cells' = cells'; is = n }
 
       -- the last part: the totals are those of all items
-      pub goes-whole : p.more ≡ false → {lost good : ℕ} {wrong : Trouble} → lost ≡ losses_in f.done → good ≡ p.samples
+      pub goes-whole : p.more ≡ false → {lost good : ℕ} {wrong : Result (Unit {0}) Trouble} → lost ≡ losses_in f.done → good ≡ p.samples
           → TellsFile body h
           (record {
             end = p.end;

@@ -6,8 +6,8 @@ use mathlib.Core.Bool.{true, false}
 use native.Mathlib.Omega.{arith}
 use lib.ListN.{length}
 use borrow.Author.Tests.{ltb-false}
-use Rattle.recording.specs.declared.Ending.{Ending}
-use Rattle.recording.specs.declared.Ending.TheVariants.{Done, Refused}
+use Rattle.recording.specs.Endings.{Ending}
+use Rattle.std.proofs.Common.{Ok, Err}
 use Rattle.recording.specs.Items.{Item, Recorded, sound_in}
 use Rattle.recording_read.proofs.Steps.{after}
 use Rattle.recording_read.proofs.Parts.{by_end}
@@ -60,15 +60,15 @@ module _ (body : List ℕ) (h : Reading) where
     pub last-part : goes_on part.end part.place (length body) ≡ false → rest_of at ≡ part
     last-part e = by_parts ∙ go part e (heard-told body law set h.records (sure_items room places) at room places).clean
       where
-        ended : (r : Recorded) (end : Ending) → r.end ≡ end → goes_on end r.place (length body) ≡ false → (r.end ≡ Done → r.bit ≡ 0)
+        ended : (r : Recorded) (end : Ending) → r.end ≡ end → goes_on end r.place (length body) ≡ false → (r.end ≡ Ok tt → r.bit ≡ 0)
             → by_end end (after r.items (rest_of r.place)) r ≡ r
-        ended r Done q e clean =
+        ended r (Ok tt) q e clean =
             ap (after r.items)
             (heard-ended body law set h.records (suc (length body)) r.place (320 * length body) (length body)
             (ltb-false r.place (length body) e)) ∙ rw (append-nil, ← q, ← (clean q))
-        ended r (Refused w) q e clean = refl
+        ended r (Err w) q e clean = refl
 
-        go : (r : Recorded) → goes_on r.end r.place (length body) ≡ false → (r.end ≡ Done → r.bit ≡ 0)
+        go : (r : Recorded) → goes_on r.end r.place (length body) ≡ false → (r.end ≡ Ok tt → r.bit ≡ 0)
             → by_end r.end (after r.items (rest_of r.place)) r ≡ r
         go r e clean = ended r r.end refl e clean
 

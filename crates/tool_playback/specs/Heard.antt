@@ -1,20 +1,19 @@
 -- How octets are read from a place on: as a recording (document 02, R-1), its losses among its items; or as a stream (document 01, "Walk and
 -- listing"), which is a recording without losses: each frame of its walk is an item that is sound.
 use Rattle.std.specs.Prelude.{ℕ, ◌≡◌, List, map, Bool, true, false, length}
-use Rattle.rules.specs.declared.Ending as rules
-use Rattle.rules.specs.declared.Ending.TheVariants as ends
+use Rattle.rules.specs.Refusals as rules
+use Rattle.std.specs.Prelude.{Ok, Err}
 use Rattle.rules.specs.Walk.{Delivered, Walked, walk_from}
 use Rattle.rules.specs.Calls.{at_start}
 use Rattle.recording.specs.declared.Refusal.TheVariants.{Frame}
-use Rattle.recording.specs.declared.Ending.{Ending}
-use Rattle.recording.specs.declared.Ending.TheVariants.{Done, Refused}
+use Rattle.recording.specs.Endings.{Ending}
 use Rattle.recording.specs.Items.{Item, sound, Recorded, items_from, sound_in}
 use Rattle.recording_read.specs.declared.Played.{Played}
 use Rattle.tool_playback.specs.declared.parts.Reading.{Reading}
 
 abbrev pub end_of : rules.Ending → Ending
-end_of ends.Done = Done
-end_of (ends.Refused why) = Refused (Frame why)
+end_of (Ok _) = Ok tt
+end_of (Err why) = Err (Frame why)
 
 abbrev pub frames_as : List Delivered → List Item
 frames_as fs = map (λ d. sound d.found) fs

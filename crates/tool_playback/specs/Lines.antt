@@ -2,7 +2,7 @@
 use Rattle.std.specs.Prelude.{ℕ, ◌+◌, ◌*◌, ◌^◌, ◌≤◌, ◌<◌, ◌≡◌, List, [], ◌∷◌, ◌++◌, length, get_or}
 use Rattle.rules.specs.Walk.{longest}
 use Rattle.rules.specs.Listing.{line_end, at_word, samples_word, field}
-use Rattle.recording.specs.declared.Ending.TheVariants.{Done}
+use Rattle.std.specs.Prelude.{Ok}
 use Rattle.recording.specs.Items.{Item, lost, sound_in}
 use Rattle.tool_playback.specs.declared.parts.Reading.{Reading}
 use Rattle.tool_playback.specs.declared.parts.Point.{Point}
@@ -57,7 +57,7 @@ Sums b p = (b.at + p.at < 2 ^ 64) × (b.items + p.items < 2 ^ 64) × (b.samples 
 pub record Behind (h : Reading) (b : Point) : Type 0 where
   pub done : List ℕ
   pub long : length done ≡ b.at
-  pub clean : (heard done h).end ≡ Done
+  pub clean : (heard done h).end ≡ Ok tt
   pub count : b.items ≡ length (heard done h).items
   pub sound : b.samples ≡ length (sound_in (heard done h).items)
   pub small : Small b

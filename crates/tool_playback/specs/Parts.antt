@@ -2,8 +2,8 @@
 use Rattle.std.specs.Prelude.{ℕ, ◌+◌, ◌*◌, ◌/◌, ◌≤◌, ◌<◌, min, ◌≡◌, List, [], ◌∷◌, map, Bool, true, false, cond, length, leb, ltb}
 use Rattle.rules.specs.Chooses.{count_of}
 use Rattle.rules.specs.Calls.{at_start}
-use Rattle.recording.specs.declared.Ending.{Ending}
-use Rattle.recording.specs.declared.Ending.TheVariants.{Done, Refused}
+use Rattle.recording.specs.Endings.{Ending}
+use Rattle.std.specs.Prelude.{Ok, Err}
 use Rattle.recording.specs.Items.{Item, sound, lost, Recorded, sound_in, cell_of, loss_from}
 use Rattle.recording_read.specs.declared.Played.{Played}
 use Rattle.tool_playback.specs.declared.parts.Reading.{Reading}
@@ -19,8 +19,8 @@ part_of octets h at room places = heard_from h (sure_items room places) octets a
 
 -- there is more to come where a part ended clean before the end
 abbrev pub goes_on : Ending → ℕ → ℕ → Bool
-goes_on Done place size = ltb place size
-goes_on (Refused why) place size = false
+goes_on (Ok _) place size = ltb place size
+goes_on (Err why) place size = false
 
 -- how many of the items are losses; and of items as numbers
 abbrev pub loss_of : Item → ℕ

@@ -2,10 +2,9 @@
 use Rattle.std.specs.Prelude.{ℕ, suc, ◌+◌, ◌*◌, ◌^◌, ◌≤◌, ◌<◌, ◌≡◌, true, false, List, [], ◌++◌, length}
 use Rattle.rules.specs.Tools.{is_law, is_set}
 use Rattle.rules.specs.Walk.{longest}
-use Rattle.recording.specs.declared.Ending.TheVariants.{Done}
+use Rattle.std.specs.Prelude.{Ok}
 use Rattle.recording.specs.Remembered.{heading_length}
 use Rattle.recording.specs.Items.{Item, Recorded, sound_in}
-use Rattle.tool_sound.specs.declared.sounds.Trouble.TheVariants.{Nothing}
 use Rattle.tool_sound.specs.Uses.{is_well}
 use Rattle.tool_playback.specs.declared.parts.Reading.{Reading}
 use Rattle.tool_playback.specs.declared.parts.Part.{Part}
@@ -66,7 +65,7 @@ pub record TellsOne (h : Reading) (t : Total) : Type 0 where
 
 -- window after window: nothing yet; what came of a window, behind what came of those before, where the sums fit
 abbrev pub no_total : Total
-no_total = record { end = Done; at = 0; bit = 0; items = 0; lost = 0; samples = 0; wrong = Nothing }
+no_total = record { end = Ok tt; at = 0; bit = 0; items = 0; lost = 0; samples = 0; wrong = Ok tt }
 
 abbrev pub behind_of : Total → Total → Total
 behind_of done t =

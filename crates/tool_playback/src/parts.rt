@@ -1,8 +1,8 @@
 // A part of a recording (document 02, R-1) or of a stream: the items from a place on, as many as the output and the cells are sure to hold.
 // The frames of a stream are items that are all sound.
-ghost use Rattle.std.specs.Prelude.{◌≤◌, ◌≡◌, cond, length, take};
+ghost use Rattle.std.specs.Prelude.{◌≡◌};
 ghost use Rattle.tool_playback.specs.Heard.{end_of, FramesHeard};
-ghost use Rattle.tool_playback.specs.Parts.{sure_items, goes_on, is_loss, loss_cells, Answers, NextPart, Goes};
+ghost use Rattle.tool_playback.specs.Parts.{sure_items, goes_on, loss_cells, Answers, NextPart, Goes};
 
 use recording::marking::LOSS_FROM;
 use recording::{Ending, Refusal};
@@ -26,6 +26,7 @@ pub struct Point {
 
 // A part: how it ended, the place where it ended, the refusal's bit, its items, how many of them are losses, the samples of its frames, and
 // whether there is more.
+// `more` is a flag: it is no failure, and the definitions of `Parts` state facts under it.
 #[derive(Clone, Copy)]
 pub struct Part {
     pub end: Ending,
@@ -37,28 +38,13 @@ pub struct Part {
     pub more: bool,
 }
 
-// An item as a number of 16 bits: from 32,768 on it is a loss.
-fn is_loss(cell: u16) -> usize
-    ensures value { result ≡ cond (is_loss cell) 1 0 }
-    ensures most { result ≤ 1 }
-{
-    if LOSS_FROM <= cell {
-        return 1;
-    }
-    0
-}
-
-// The losses among the first n items.
-fn losses(cells: &[u16], n: usize) -> usize
-    requires { n ≤ length cells.now }
-    ensures { result ≡ loss_cells (take n cells.now) }
+// The losses among items as numbers of 16 bits: from 32,768 on one is a loss.
+fn losses(cells: &[u16]) -> usize
+    ensures { result ≡ loss_cells cells.now }
 {
     let mut count = 0;
-    let mut i = 0;
-    while i < n {
-        let one = is_loss(cells[i]);
-        count += one;
-        i += 1;
+    for cell in cells {
+        count += usize::from(LOSS_FROM <= *cell);
     }
     count
 }
@@ -67,37 +53,28 @@ fn losses(cells: &[u16], n: usize) -> usize
 fn goes_on(end: Ending, place: usize, size: usize) -> bool
     ensures { result ≡ goes_on end place size }
 {
-    match end {
-        Ending::Done => place < size,
-        Ending::Refused(_) => false,
-    }
+    end.is_ok() && place < size
 }
 
 // A frame has at most 320 samples, so these items fit, whatever they are.
 fn sure_items(room: usize, places: usize) -> usize
     ensures { result ≡ sure_items room places }
 {
-    let n = room / 320;
-    if n <= places {
-        return n;
-    }
-    places
+    (room / 320).min(places)
 }
 
 // What was read of so many octets, as a part.
 fn part_of(p: Played, lost: usize, size: usize) -> Part
     ensures { Answers p lost size result }
 {
-    let end = p.end;
-    let more = goes_on(end, p.place, size);
     Part {
-        end,
+        end: p.end,
         at: p.place,
         bit: p.bit,
         items: p.items,
         lost,
         samples: p.samples,
-        more,
+        more: goes_on(p.end, p.place, size),
     }
 }
 
@@ -105,10 +82,7 @@ fn part_of(p: Played, lost: usize, size: usize) -> Part
 fn end_of(end: rules::Ending) -> Ending
     ensures { result ≡ end_of end }
 {
-    match end {
-        rules::Ending::Done => Ending::Done,
-        rules::Ending::Refused(why) => Ending::Refused(Refusal::Frame(why)),
-    }
+    end.map_err(|why| Refusal::Frame(why))
 }
 
 // The next n frames of a stream, as items.
@@ -116,10 +90,8 @@ fn next_frames(body: &[u8], how: Reading, at: usize, n: usize, out: &mut [u8]) -
     ensures { FramesHeard body.now how at n out.old out.new result }
 {
     let w = walk::keep_on(body, how.law, how.set, at, n, out);
-    let e = w.end;
-    let end = end_of(e);
     Played {
-        end,
+        end: end_of(w.end),
         items: w.frames,
         place: w.place,
         samples: w.samples,
@@ -135,9 +107,9 @@ pub fn next_part(body: &[u8], how: Reading, at: usize, out: &mut [u8], cells: &m
     let n = sure_items(out.len(), cells.len());
     if how.records {
         let p = recording_read::play_on(body, how.law, how.set, at, n, out, cells);
-        let lost = losses(cells, p.items);
-        return part_of(p, lost, body.len());
+        let lost = losses(&cells[..p.items]);
+        part_of(p, lost, body.len())
+    } else {
+        part_of(next_frames(body, how, at, n, out), 0, body.len())
     }
-    let p = next_frames(body, how, at, n, out);
-    part_of(p, 0, body.len())
 }

@@ -1,6 +1,6 @@
 // The sound of octets, and of a file window by window, used: written, compared or counted; and its losses, or all its items, told.
 //   play: the items of octets.      play_file: those of a file.
-ghost use Rattle.std.specs.Prelude.{◌+◌, ◌≤◌, ◌≡◌, true, length};
+ghost use Rattle.std.specs.Prelude.{◌+◌, ◌≤◌, ◌≡◌, true, length, IfOk};
 ghost use Rattle.rules.specs.Walk.{longest};
 ghost use Rattle.tool_sound.specs.Uses.{is_well, UsesUpTo};
 ghost use Rattle.tool_playback.specs.Runs.{Lawful, NextSound, TellsFile, Reachable, TellsOne, Within};
@@ -12,8 +12,7 @@ use crate::telling::{Teller, Tells, tell_part};
 use recording::Ending;
 use std::fs::File;
 use std::io;
-use tool_console::Got;
-use tool_sound::sounds::{Trouble, Used, Way, is_well};
+use tool_sound::sounds::{Trouble, Used, Way};
 
 // What came of octets: how they ended and where, the refusal's bit, the items, the losses among them, the samples that are well, and what
 // is wrong.
@@ -25,7 +24,7 @@ pub struct Total {
     pub items: usize,
     pub lost: usize,
     pub samples: usize,
-    pub wrong: Trouble,
+    pub wrong: Result<(), Trouble>,
 }
 
 // The sound of a part, used. It is the part of `body` at `at`; the set stands here for the contract alone.
@@ -41,11 +40,11 @@ fn use_part(
     requires { NextSound body.now how at page.now p × (p.samples ≤ length page.now) × (length page.now ≤ length master.old) }
     ensures { UsesUpTo p.samples result }
 {
-    let n = p.samples;
-    tool_sound::sounds::use_sound(way, how.law, &page[..n], master)
+    tool_sound::sounds::use_sound(way, how.law, &page[..p.samples], master)
 }
 
 // Part after part, page by page.
+// No `for`: how far a part goes is known when it is read.
 fn parts(
     to: Teller,
     body: &[u8],
@@ -76,25 +75,19 @@ fn parts(
             to.tells,
             base,
         );
-        let end = p.end;
-        let wrong = u.wrong;
         items += p.items;
         lost += p.lost;
         samples += u.good;
-        let total = Total {
-            end,
-            at: p.at,
-            bit: p.bit,
-            items,
-            lost,
-            samples,
-            wrong,
-        };
-        if !is_well(wrong) {
-            return total;
-        }
-        if !p.more {
-            return total;
+        if u.end.is_err() || !p.more {
+            return Total {
+                end: p.end,
+                at: p.at,
+                bit: p.bit,
+                items,
+                lost,
+                samples,
+                wrong: u.end,
+            };
         }
         at = p.at;
     }
@@ -138,26 +131,17 @@ pub struct Body {
 const WINDOW: usize = 131072;
 
 // The octets of a window: those from a place on, as many as there are and as it holds.
-pub fn window_at(fd: &File, b: Body, at: usize, window: &mut [u8]) -> Got
+pub fn window_at(fd: &File, b: Body, at: usize, window: &mut [u8]) -> io::Result<usize>
     requires { (at ≤ b.size) × Reachable b }
-    ensures { (result.count ≤ length window.new) × (at + result.count ≤ b.size) }
+    ensures { IfOk result (λ n. (n ≤ length window.new) × (at + n ≤ b.size)) }
 {
-    let left = b.size - at;
-    if left < window.len() {
-        return tool_console::read_at(fd, b.skip + at, &mut window[..left]);
-    }
-    tool_console::read_at(fd, b.skip + at, window)
+    let n = window.len().min(b.size - at);
+    tool_console::read_at(fd, b.skip + at, &mut window[..n])
 }
 
 // Whether another window follows: there are octets behind this one, which is full, and it ended clean or inside a frame (SHORT).
 fn goes_further(number: u32, count: usize, full: usize, left: usize) -> bool {
-    if count < full {
-        return false;
-    }
-    if left <= count {
-        return false;
-    }
-    number <= 1
+    full <= count && count < left && number <= 1
 }
 
 // What came of no octets.
@@ -165,13 +149,13 @@ fn nothing() -> Total
     ensures { result ≡ no_total }
 {
     Total {
-        end: Ending::Done,
+        end: Ok(()),
         at: 0,
         bit: 0,
         items: 0,
         lost: 0,
         samples: 0,
-        wrong: Trouble::Nothing,
+        wrong: Ok(()),
     }
 }
 
@@ -180,16 +164,14 @@ fn behind(done: Total, t: Total) -> Total
     requires { Fit done t }
     ensures { result ≡ behind_of done t }
 {
-    let end = t.end;
-    let wrong = t.wrong;
     Total {
-        end,
+        end: t.end,
         at: done.at + t.at,
         bit: t.bit,
         items: done.items + t.items,
         lost: done.lost + t.lost,
         samples: done.samples + t.samples,
-        wrong,
+        wrong: t.wrong,
     }
 }
 
@@ -198,20 +180,18 @@ fn unread(done: Total, why: io::Error) -> Total
     ensures { UnreadAfter done result }
 {
     Total {
-        end: Ending::Done,
+        end: Ok(()),
         at: done.at,
         bit: 0,
         items: done.items,
         lost: done.lost,
         samples: done.samples,
-        wrong: Trouble::Unread(why),
+        wrong: Err(Trouble::Unread(why)),
     }
 }
 
-// The system's number where no call failed.
-const NO_ERROR: i32 = 0;
-
 // A file, window by window: each begins where an item does.
+// No `for`: how far a window goes is known when it is played.
 fn windows(
     rt: HostRuntime,
     fd: &File,
@@ -227,11 +207,10 @@ fn windows(
 {
     let mut done = nothing();
     loop {
-        let got = window_at(fd, b, done.at, window);
-        if let Some(why) = got.failed {
-            return unread(done, why);
-        }
-        let n = got.count;
+        let n = match window_at(fd, b, done.at, window) {
+            Ok(n) => n,
+            Err(why) => return unread(done, why),
+        };
         let base = Point {
             at: done.at,
             items: done.items,
@@ -239,16 +218,13 @@ fn windows(
         };
         let t = play(rt, &window[..n], how, way, tells, base);
         let total = behind(done, t);
-        let wrong = t.wrong;
-        if !is_well(wrong) {
-            return total;
-        }
-        let end = t.end;
-        if !goes_further(recording::number_of(end), n, window.len(), b.size - done.at) {
+        if t.wrong.is_err()
+            || !goes_further(rules::number_of(t.end), n, window.len(), b.size - done.at)
+        {
             return total;
         }
         if t.at == 0 {
-            return unread(done, io::Error::from_raw_os_error(NO_ERROR));
+            return unread(done, tool_console::no_error());
         }
         done = total;
     }

@@ -91,6 +91,7 @@ fn say_item(to: Teller, body: &[u8], how: Reading, here: Point, p: Part, cell: u
 }
 
 // What is told of so many items from a place on. They are played one by one, so that the place of each is known.
+// A `while`: how far an item goes is known when it is played.
 fn tell(
     rt: HostRuntime,
     body: &[u8],

@@ -1,40 +1,23 @@
 -- A recording through a master and back: octet for octet, but for 7F of mu, which returns as FF.
-use Prim.Native.Nat.{ℕ, suc, ◌+◌, ◌-◌, ◌*◌, ◌/◌, ◌<◌}
+use Prim.Native.Nat.{ℕ, ◌-◌, ◌/◌, ◌<◌}
 use mathlib.Core.Path.{◌≡◌, refl, ap, ◌∙◌}
-use mathlib.Core.Bool.{Bool, true, false, cond}
 use mathlib.Core.List.{List, map}
 use native.Mathlib.Omega.{arith}
-use lib.Dec.{eqb}
-use lib.IntN.{ℤ, pos, negsuc, ◌*ℤ◌}
-use lib.Signed.{mag, shr_z}
+use lib.IntN.{ℤ, pos, negsuc}
+use lib.Signed.{mag}
 use borrow.Author.Tests.{lt-ltb, le-ltb}
 use Rattle.rules.proofs.Octets.{Below, none, more}
 use Rattle.linear.specs.Equations.{to_pcm, from_pcm}
 use Rattle.linear.proofs.Returns.{a-returns, mu-returns, minus_as_plus}
-use Rattle.tool_sound.specs.Masters.{unit_of, value_of, low_of, high_of, values_of, pairs_of, value_for, sound_of, master_of}
-use Rattle.tool_sound.proofs.Values.{mag-value}
+use Rattle.tool_sound.specs.Masters.{value_of, low_of, high_of, values_of, pairs_of, value_for, sound_of, master_of}
+use Rattle.linear_masters.proofs.Values.{mag-value}
+use Rattle.linear_masters.proofs.Back.{shift_back}
 
 -- a value of 16 bits from its octets
 value-back : (v : ℤ) → mag v < 32768 → value_of (low_of v) (high_of v) ≡ v
 unfolding value_of low_of high_of
 value-back (pos n) h = rw (lt-ltb (n / 256) 128 (omega arith)) (ap pos (omega arith))
 value-back (negsuc n) h = rw (le-ltb (255 - n / 256) 128 (omega arith)) (ap negsuc (omega arith))
-
--- shifted up and down again
-shift-8 : (v : ℤ) → shr_z (v *ℤ pos 8) 8 ≡ v
-shift-8 (pos a) = ap pos (omega arith)
-shift-8 (negsuc a) = let z : suc a * 8 ≡ suc (a * 8 + 7) = omega arith in rw z (ap negsuc (omega arith))
-
-shift-4 : (v : ℤ) → shr_z (v *ℤ pos 4) 4 ≡ v
-shift-4 (pos a) = ap pos (omega arith)
-shift-4 (negsuc a) = let z : suc a * 4 ≡ suc (a * 4 + 3) = omega arith in rw z (ap negsuc (omega arith))
-
-shift_back : (law : ℕ) (v : ℤ) → shr_z (v *ℤ pos (unit_of law)) (unit_of law) ≡ v
-shift_back law v = go (eqb law 0)
-  where
-    go : (b : Bool) → shr_z (v *ℤ pos (cond b 8 4)) (cond b 8 4) ≡ v
-    go true = shift-8 v
-    go false = shift-4 v
 
 -- the sound of the master of a sound: each sample to linear PCM and back
 pub sound_back : (law : ℕ) {s : List ℕ} → Below 256 s → sound_of law (master_of law s) ≡ map (λ o. from_pcm law (to_pcm law o)) s

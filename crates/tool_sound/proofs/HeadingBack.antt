@@ -3,14 +3,15 @@ use Prim.Native.Nat.{ℕ, ◌+◌, ◌*◌, ◌/◌, ◌%◌, ◌<◌}
 use mathlib.Core.Path.{◌≡◌}
 use native.Mathlib.Omega.{arith}
 use borrow.Author.Tests.{eq-eqb}
+use Rattle.std.specs.Prelude.{Ok}
 use Rattle.tool_sound.specs.declared.wave.Heading.TheVariants.{Sound}
-use Rattle.tool_sound.specs.Headings.{half_at, word_at, format_at, format_in, sound_of, step_at, chunks_from, heading_of, heading_for}
+use Rattle.tool_sound.specs.Headings.{half_at, word_at, chunks_from, heading_of, heading_for}
 
 -- four octets make their number again
 word_back : (n : ℕ) → n < 4294967296
     → n % 256 + 256 * (n / 256 % 256) + 65536 * (n / 256 / 256 % 256 + 256 * (n / 256 / 256 / 256 % 256)) ≡ n
 word_back n h = omega arith
 
-pub reads-back : (n : ℕ) → n < 4294967296 → n % 2 ≡ 0 → heading_of (heading_for n) ≡ Sound n
-unfolding heading_of chunks_from step_at format_in format_at sound_of word_at half_at
+pub reads-back : (n : ℕ) → n < 4294967296 → n % 2 ≡ 0 → heading_of (heading_for n) ≡ Ok (Sound n)
+unfolding chunks_from word_at half_at
 reads-back n h e = rw (word_back n h, eq-eqb (n % 2) 0 e)

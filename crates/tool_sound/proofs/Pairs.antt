@@ -8,8 +8,7 @@ use native.Mathlib.Omega.{arith}
 use lib.IntN.{ℤ, pos}
 use lib.ListN.{length, take, drop, get_or, set, length-map, get_or-map}
 use lib.Seq.{paste, paste-suc, length-paste}
-use Rattle.tool_sound.specs.declared.masters.Pair.{Pair}
-use Rattle.tool_sound.specs.Masters.{value_of, low_of, high_of, values_of, pairs_of, sample_for, value_for, sound_of, master_of, Splits}
+use Rattle.tool_sound.specs.Masters.{value_of, low_of, high_of, values_of, pairs_of, sample_for, value_for, sound_of, master_of}
 
 pub values_length : (m : List ℕ) → length (values_of m) ≡ length m / 2
 unfolding values_of
@@ -76,15 +75,16 @@ sound-turn law m d i v h g e =
     (e ∙ ap (sample_for law) (sym (values-at m i h)) ∙ sym (get_or-map (sample_for law) (values_of m) i (pos 0)))
 
 -- one value more, two octets
-pub master-turn : (law : ℕ) (s d : List ℕ) (i : ℕ) {p : Pair} → i < length s → 2 * i + 1 < length d → Splits (value_for law (get_or s i 0)) p
-    → set (set (paste d 0 (master_of law s) (2 * i)) (2 * i) p.low) (2 * i + 1) p.high ≡ paste d 0 (master_of law s) (2 * (i + 1))
-master-turn law s d i {p} h g e =
+pub master-turn : (law : ℕ) (s d : List ℕ) (i : ℕ) {low high : ℕ} → i < length s → 2 * i + 1 < length d
+    → low ≡ low_of (value_for law (get_or s i 0)) → high ≡ high_of (value_for law (get_or s i 0))
+    → set (set (paste d 0 (master_of law s) (2 * i)) (2 * i) low) (2 * i + 1) high ≡ paste d 0 (master_of law s) (2 * (i + 1))
+master-turn law s d i {low} {high} h g is_low is-high =
     let vs = map (value_for law) s in
     let k : i < length vs = omega (arith, length-map s (value_for law)) in
     let f = get_or-map (value_for law) s i 0 in
     let n = master-length law s in
-    let low = e.low ∙ ap low_of (sym f) ∙ sym (pairs-low (value_for law 0) vs i k) in
-    let high = e.high ∙ ap high_of (sym f) ∙ sym (pairs-high (value_for law 0) vs i k) in
+    let a = is_low ∙ ap low_of (sym f) ∙ sym (pairs-low (value_for law 0) vs i k) in
+    let b = is-high ∙ ap high_of (sym f) ∙ sym (pairs-high (value_for law 0) vs i k) in
     let z : 2 * (i + 1) ≡ 2 * i + 1 + 1 = omega arith in
-    ap (λ (l : List ℕ). set l (2 * i + 1) p.high) (lay (master_of law s) d (2 * i) p.low 0 (omega arith) (omega arith) low)
-    ∙ lay (master_of law s) d (2 * i + 1) p.high 0 (omega arith) g high ∙ ap (paste d 0 (master_of law s)) (sym z)
+    ap (λ (l : List ℕ). set l (2 * i + 1) high) (lay (master_of law s) d (2 * i) low 0 (omega arith) (omega arith) a)
+    ∙ lay (master_of law s) d (2 * i + 1) high 0 (omega arith) g b ∙ ap (paste d 0 (master_of law s)) (sym z)

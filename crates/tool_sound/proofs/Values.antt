@@ -1,86 +1,36 @@
--- One value and its octets, in the code's expressions.
-use Prim.Native.Nat.{ℕ, zero, suc, ◌+◌, ◌-◌, ◌*◌, ◌/◌, ◌%◌, ◌≤◌, ◌<◌}
+-- One value and its octets, as std reads and writes them: `value-read`, `value-written`.
+use Prim.Native.Nat.{ℕ, suc, ◌+◌, ◌-◌, ◌*◌, ◌/◌, ◌%◌, ◌<◌}
 use mathlib.Core.Path.{◌≡◌, refl, ap, ◌∙◌}
 use mathlib.Core.Bool.{Bool, true, false, cond}
+use mathlib.Core.List.{[], ◌∷◌}
 use native.Mathlib.Omega.{arith}
-use lib.Dec.{eqb, ltb}
-use lib.IntN.{ℤ, pos, negsuc, neg_ℤ, nat_abs, ◌*ℤ◌}
-use lib.Signed.{mag, shr_z, mag_shr}
+use lib.Dec.{ltb}
+use lib.IntN.{ℤ, pos, negsuc}
+use lib.Signed.{mag}
 use mir.Syntax.{w16}
-use mir.Val.{SFits, to_z, of_z}
-use mir.Facts.{to_z-of_z}
-use borrow.Author.Tests.{eq-eqb, ne_eqb, lt-ltb, le-ltb, ltb-true}
-use Rattle.rules.proofs.Tests.{all_below-at}
-use Rattle.linear.specs.Equations.{A→PCM, μ→PCM, to_pcm}
-use Rattle.linear.proofs.Signs.{Below, Above}
-use Rattle.tool_sound.specs.Masters.{unit_of, value_of, low_of, high_of, value_for, Splits}
+use mir.Val.{to_z, of_z}
+use borrow.Author.Tests.{ltb-true, ltb-false}
+use Rattle.std.specs.Int.{from_le_bytes, to_le_bytes}
+use Rattle.std.proofs.Math.Facts.{to_z_pos, to_z-neg}
+use Rattle.tool_sound.specs.Masters.{value_of, low_of, high_of, Splits}
 
-pub unit-a : (law : ℕ) → law ≡ 0 → 8 ≡ unit_of law
-unit-a law e = rw (eq-eqb law 0 e)
-
-pub unit-mu : (law : ℕ) → (law ≡ 0 → ⊥) → 4 ≡ unit_of law
-unit-mu law n = rw (ne_eqb law 0 n)
-
--- two octets
-pub value-above : (low high : ℕ) → high < 128 → pos (low + 256 * high) ≡ value_of low high
+pub value-read : (low high : ℕ) → low < 256 → high < 256 → to_z w16 (from_le_bytes w16 (low ∷ high ∷ [])) ≡ value_of low high
 unfolding value_of
-value-above low high h = rw (lt-ltb high 128 h)
-
-pub value-below : (low high : ℕ) → 128 ≤ high → negsuc (255 - low + 256 * (255 - high)) ≡ value_of low high
-unfolding value_of
-value-below low high h = rw (le-ltb high 128 h)
-
-pub splits-below : {v : ℤ} → Below w16 v → {n : ℕ} → n ≡ mag v → Splits v (record { low = 255 - n % 256; high = 255 - n / 256 })
-unfolding low_of high_of
-splits-below b e = record { low = rw (e, b.is); high = rw (e, b.is) }
-
-pub splits-above : {v : ℤ} → Above w16 v → {n : ℕ} → n ≡ mag v → Splits v (record { low = n % 256; high = n / 256 })
-unfolding low_of high_of
-splits-above b e = record { low = rw (e, b.is); high = rw (e, b.is) }
-
--- a shift
-pub shifted : (law : ℕ) {v : ℤ} {k : ℕ} → SFits w16 v → k ≡ unit_of law
-    → to_z w16 (of_z w16 (shr_z (to_z w16 (of_z w16 v)) k)) ≡ shr_z v (unit_of law)
-shifted law {v} {k} f e =
-    ap (λ (z : ℤ). to_z w16 (of_z w16 (shr_z z k))) (to_z-of_z f)
-    ∙ to_z-of_z {w = w16} (record { sfits = omega (arith, mag_shr v k, f.sfits) }) ∙ ap (shr_z v) e
-
--- no linear value leaves 16 bits
-a-loud : (o : ℕ) → o < 256 → nat_abs (A→PCM o) * 8 < 32768
-unfolding A→PCM
-a-loud o h = ltb-true _ _ (all_below-at (λ o. ltb (nat_abs (A→PCM o) * 8) 32768) 256 refl o h)
-
-mu-loud : (o : ℕ) → o < 256 → nat_abs (μ→PCM o) * 4 < 32768
-unfolding μ→PCM
-mu-loud o h = ltb-true _ _ (all_below-at (λ o. ltb (nat_abs (μ→PCM o) * 4) 32768) 256 refl o h)
-
-loud : (law o : ℕ) → o < 256 → nat_abs (to_pcm law o) * unit_of law < 32768
-loud law o h = go (eqb law 0)
+value-read low high h k = go (ltb high 128) refl
   where
-    go : (b : Bool) → nat_abs (cond b (A→PCM o) (μ→PCM o)) * cond b 8 4 < 32768
-    go true = a-loud o h
-    go false = mu-loud o h
+    go : (b : Bool) → ltb high 128 ≡ b
+        → to_z w16 (from_le_bytes w16 (low ∷ high ∷ [])) ≡ cond b (pos (low + 256 * high)) (negsuc (255 - low + 256 * (255 - high)))
+    go true e = let l = ltb-true high 128 e in to_z_pos w16 (omega arith) ∙ ap pos (omega arith)
+    go false e =
+        let l = ltb-false high 128 e in
+        let n = 255 - low + 256 * (255 - high) in
+        let z : from_le_bytes w16 (low ∷ high ∷ []) ≡ 65536 - suc n = omega arith in
+        ap (to_z w16) z ∙ to_z-neg w16 n (omega arith)
 
-mag-neg : (n : ℕ) → mag (neg_ℤ (pos n)) ≤ n
-mag-neg zero = omega arith
-mag-neg (suc n) = omega arith
-
-mag-product : (v : ℤ) (k : ℕ) → mag (v *ℤ pos k) ≤ nat_abs v * k
-mag-product (pos a) k = omega arith
-mag-product (negsuc a) k = mag-neg (suc a * k)
-
-pub mag-value : (law o : ℕ) → o < 256 → mag (value_for law o) < 32768
-mag-value law o h = omega (arith, mag-product (to_pcm law o) (unit_of law), loud law o h)
-
--- a linear value in 16 bits again
-pub record Raised (law o : ℕ) (z : ℤ) : Type 0 where
-  pub fits : SFits w16 z
-  pub is : to_z w16 (of_z w16 z) ≡ value_for law o
-
-pub raised : (law o : ℕ) {r : ℤ} {k : ℕ} → SFits w16 r → r ≡ to_pcm law o → k ≡ unit_of law → o < 256
-    → Raised law o (to_z w16 (of_z w16 r) *ℤ pos k)
-raised law o {r} {k} f e g h =
-    let z : to_z w16 (of_z w16 r) *ℤ pos k ≡ value_for law o = ap (λ (v : ℤ). v *ℤ pos k) (to_z-of_z f ∙ e)
-    ∙ ap (λ (n : ℕ). to_pcm law o *ℤ pos n) g in
-    let t : SFits w16 (value_for law o) = record { sfits = mag-value law o h } in
-    rw z (record { fits = t; is = to_z-of_z t })
+pub value-written : (v : ℤ) → mag v < 32768 → Splits v (to_le_bytes w16 (of_z w16 v))
+unfolding low_of high_of
+value-written (pos n) h = let z : n / 256 % 256 ≡ n / 256 = omega arith in rw z refl
+value-written (negsuc n) h =
+    let low : (65536 - suc n) % 256 ≡ 255 - n % 256 = omega arith in
+    let high : (65536 - suc n) / 256 % 256 ≡ 255 - n / 256 = omega arith in
+    rw (low, high) refl

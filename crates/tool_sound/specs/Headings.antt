@@ -1,8 +1,9 @@
 -- The heading of a WAV file as the bench tools take it: `RIFF`, a length, `WAVE`, then chunks up to the one of the sound, `data`.
 -- Numbers have their low octet first. The format is PCM (1), 1 channel, 8,000 Hz, 16 bits. Other chunks are skipped.
-use Rattle.std.specs.Prelude.{ℕ, zero, suc, ◌+◌, ◌-◌, ◌*◌, ◌/◌, ◌%◌, Bool, true, false, cond, ◌&&◌, List, [], ◌∷◌, eqb, ltb, length, get_or}
+use Rattle.std.specs.Prelude.{ℕ, zero, suc, ◌+◌, ◌-◌, ◌*◌, ◌/◌, ◌%◌, Bool, true, false, cond, ◌&&◌, List, [], ◌∷◌, eqb, ltb, length, get_or, Result, Ok, Err}
 use Rattle.tool_sound.specs.declared.wave.Heading.{Heading}
-use Rattle.tool_sound.specs.declared.wave.Heading.TheVariants.{More, Sound, Refused}
+use Rattle.tool_sound.specs.declared.wave.Heading.TheVariants.{More, Sound}
+use Rattle.tool_sound.specs.declared.wave.Wrong.{Wrong}
 use Rattle.tool_sound.specs.declared.wave.Wrong.TheVariants.{NotWave, Format, Channels, Rate, Bits, ShortFormat, NoFormat, OddSound}
 use Rattle.tool_sound.specs.declared.wave.Wrong.TheVariants.{ManyChunks}
 use Rattle.tool_sound.specs.declared.wave.Step.{Step}
@@ -29,55 +30,60 @@ abbrev pub data_name : ℕ
 data_name = 0x61746164
 
 -- the format that begins at a place, in a chunk of this size: the heading goes on, or it is refused with what it is
-unfoldable pub format_at : List ℕ → ℕ → ℕ → Step
+abbrev pub format_at : List ℕ → ℕ → ℕ → Result Step Wrong
 format_at l at size =
     cond (eqb (half_at l at) 1)
     (cond (eqb (half_at l (at + 2)) 1)
     (cond (eqb (word_at l (at + 4)) 8000)
-    (cond (eqb (half_at l (at + 14)) 16) (On size true) (Ends (Refused (Bits (half_at l (at + 14))))))
-    (Ends (Refused (Rate (word_at l (at + 4))))))
-    (Ends (Refused (Channels (half_at l (at + 2))))))
-    (Ends (Refused (Format (half_at l at))))
+    (cond (eqb (half_at l (at + 14)) 16) (Ok (On size true)) (Err (Bits (half_at l (at + 14)))))
+    (Err (Rate (word_at l (at + 4)))))
+    (Err (Channels (half_at l (at + 2)))))
+    (Err (Format (half_at l at)))
 
 -- the sound of so many octets, after a format and of whole samples
-unfoldable pub sound_of : Bool → ℕ → Heading
-sound_of seen size = cond seen (cond (eqb (size % 2) 0) (Sound size) (Refused (OddSound size))) (Refused NoFormat)
+abbrev pub sound_of : Bool → ℕ → Result Heading Wrong
+sound_of seen size = cond seen (cond (eqb (size % 2) 0) (Ok (Sound size)) (Err (OddSound size))) (Err NoFormat)
 
 -- the format's chunk: the format is in its first 16 octets
-unfoldable pub format_in : List ℕ → ℕ → ℕ → Step
+abbrev pub format_in : List ℕ → ℕ → ℕ → Result Step Wrong
 format_in l at size =
-    cond (ltb size 16) (Ends (Refused (ShortFormat size)))
-    (cond (ltb (length l) (at + 24)) (Ends (More (at + 24 - length l))) (format_at l (at + 8) size))
+    cond (ltb size 16) (Err (ShortFormat size))
+    (cond (ltb (length l) (at + 24)) (Ok (Ends (More (at + 24 - length l)))) (format_at l (at + 8) size))
+
+abbrev pub ended : Result Heading Wrong → Result Step Wrong
+ended (Ok h) = Ok (Ends h)
+ended (Err why) = Err why
 
 -- a chunk that begins at a place: the sound, the format, or one to skip
-unfoldable pub step_at : List ℕ → ℕ → Bool → Step
+abbrev pub step_at : List ℕ → ℕ → Bool → Result Step Wrong
 step_at l at seen =
-    cond (ltb (length l) (at + 8)) (Ends (More (at + 8 - length l)))
-    (cond (eqb (word_at l at) data_name) (Ends (sound_of seen (word_at l (at + 4))))
+    cond (ltb (length l) (at + 8)) (Ok (Ends (More (at + 8 - length l))))
+    (cond (eqb (word_at l at) data_name) (ended (sound_of seen (word_at l (at + 4))))
     (cond (eqb (word_at l at) format_name) (format_in l at (word_at l (at + 4)))
-    (On (word_at l (at + 4)) seen)))
+    (Ok (On (word_at l (at + 4)) seen))))
 
 -- where the chunk after one of this size begins: a chunk of an odd size has an octet more
 abbrev pub after : ℕ → ℕ → ℕ
 after at size = at + 8 + size + size % 2
 
-abbrev pub onward : ℕ → Step → (ℕ → Bool → Heading) → Heading
-onward at (On size seen) f = f (after at size) seen
-onward at (Ends h) f = h
+abbrev pub onward : ℕ → Result Step Wrong → (ℕ → Bool → Result Heading Wrong) → Result Heading Wrong
+onward at (Ok (On size seen)) f = f (after at size) seen
+onward at (Ok (Ends h)) f = Ok h
+onward at (Err why) f = Err why
 
 -- so many chunks at most
-unfoldable pub chunks_from : ℕ → List ℕ → ℕ → Bool → Heading
-chunks_from zero l at seen = Refused ManyChunks
+unfoldable pub chunks_from : ℕ → List ℕ → ℕ → Bool → Result Heading Wrong
+chunks_from zero l at seen = Err ManyChunks
 chunks_from (suc left) l at seen = onward at (step_at l at seen) (chunks_from left l)
 
 abbrev pub most_chunks : ℕ
 most_chunks = 32
 
 -- the heading at the start of these octets; `More` where it needs so many octets more to be told
-unfoldable pub heading_of : List ℕ → Heading
+abbrev pub heading_of : List ℕ → Result Heading Wrong
 heading_of l =
-    cond (ltb (length l) 12) (More (12 - length l))
-    (cond (eqb (word_at l 0) riff_name && eqb (word_at l 8) wave_name) (chunks_from most_chunks l 12 false) (Refused NotWave))
+    cond (ltb (length l) 12) (Ok (More (12 - length l)))
+    (cond (eqb (word_at l 0) riff_name && eqb (word_at l 8) wave_name) (chunks_from most_chunks l 12 false) (Err NotWave))
 
 -- a number as four octets, and before others
 abbrev pub word_then : ℕ → List ℕ → List ℕ

@@ -2,7 +2,6 @@
 -- an arithmetic shift, 3 for A and 2 for mu: 8 and 4 are what (6-2) and (6-4) of 001 divide by.
 use Rattle.std.specs.Prelude.{ℕ, ◌+◌, ◌-◌, ◌*◌, ◌/◌, ◌%◌, min, ◌≡◌, cond, List, [], ◌∷◌, ◌++◌, map, eqb, ltb, ℤ, pos, negsuc, ◌*ℤ◌, length, take, drop}
 use Rattle.std.specs.Int.Signed.{shr_z}
-use Rattle.tool_sound.specs.declared.masters.Pair.{Pair}
 use Rattle.linear.specs.Equations.{to_pcm, from_pcm}
 
 abbrev pub unit_of : ℕ → ℕ
@@ -46,9 +45,8 @@ abbrev pub master_of : ℕ → List ℕ → List ℕ
 master_of law sound = pairs_of (map (value_for law) sound)
 
 -- the two octets of a value
-pub record Splits (v : ℤ) (p : Pair) : Type 0 where
-  pub low : p.low ≡ low_of v
-  pub high : p.high ≡ high_of v
+abbrev pub Splits : ℤ → List ℕ → Type 0
+Splits v p = p ≡ low_of v ∷ high_of v ∷ []
 
 -- as many samples as the master has and the output holds, at its start; the rest as lent
 pub record Sounds (law : ℕ) (master out out' : List ℕ) (r : ℕ) : Type 0 where

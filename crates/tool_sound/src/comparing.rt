@@ -7,15 +7,10 @@ pub fn agree(a: &[u8], b: &[u8]) -> usize
     ensures value { result ≡ agreeing a.now b.now }
     ensures most { (result ≤ length a.now) × (result ≤ length b.now) }
 {
-    let mut i = 0;
-    while i < a.len() {
-        if b.len() <= i {
+    for (i, x) in a.iter().enumerate() {
+        if b.len() <= i || b[i] != *x {
             return i;
         }
-        if a[i] != b[i] {
-            return i;
-        }
-        i += 1;
     }
-    i
+    a.len()
 }

@@ -8,23 +8,11 @@ use native.Mathlib.Nat.{pow-suc, pow-le-pow_right}
 use lib.ListN.{length, get_or, drop, drop_of_length-le}
 use lib.Seq.{drop-cons}
 use borrow.Author.Tests.{le-leb, lt-leb}
-use Rattle.tool_words.specs.declared.texts.Number.TheVariants.{Is, Not}
-use Rattle.tool_words.specs.Numbers.{number_from, number_in}
-
-pub none-of-none : (text : List ℕ) → length text ≡ 0 → number_in text ≡ Not
-unfolding number_in
-none-of-none text e = rw e
-
-pub none-of-many : (text : List ℕ) → 9 < length text → number_in text ≡ Not
-unfolding number_in
-none-of-many text h = rw (le-leb 1 (length text) (omega arith), lt-leb (length text) 9 h)
-
-pub number-start : (text : List ℕ) → (length text ≡ 0 → ⊥) → length text ≤ 9 → number_in text ≡ number_from 0 (drop 0 text)
-unfolding number_in
-number-start text z h = rw (le-leb 1 (length text) (omega arith), le-leb (length text) 9 h)
+use Rattle.std.specs.Prelude.{Some, None}
+use Rattle.tool_words.specs.Numbers.{number_from}
 
 module _ (text : List ℕ) (v i : ℕ) where
-  pub number-end : length text ≤ i → number_from v (drop i text) ≡ Is v
+  pub number-end : length text ≤ i → number_from v (drop i text) ≡ Some v
   unfolding number_from
   number-end h = rw (drop_of_length-le text h)
 
@@ -34,11 +22,11 @@ module _ (text : List ℕ) (v i : ℕ) where
     unfolding number_from
     number_step a b = rw (add-one, drop-cons text i 0 h, le-leb 48 (get_or text i 0) a, le-leb (get_or text i 0) 57 b)
 
-    pub number-low : get_or text i 0 < 48 → number_from v (drop i text) ≡ Not
+    pub number-low : get_or text i 0 < 48 → number_from v (drop i text) ≡ None
     unfolding number_from
     number-low a = rw (drop-cons text i 0 h, lt-leb 48 (get_or text i 0) a)
 
-    pub number-high : 57 < get_or text i 0 → number_from v (drop i text) ≡ Not
+    pub number-high : 57 < get_or text i 0 → number_from v (drop i text) ≡ None
     unfolding number_from
     number-high a = rw (drop-cons text i 0 h, le-leb 48 (get_or text i 0) (omega arith), lt-leb (get_or text i 0) 57 a)
 

@@ -1,4 +1,4 @@
 pub mod TextLaws
 pub mod Digits
 pub mod Names
-pub mod RefusalNames
+pub mod Endings

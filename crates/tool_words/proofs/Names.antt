@@ -7,7 +7,7 @@ use native.Mathlib.Omega.{arith}
 use native.Mathlib.Numerals.{add-one}
 use lib.ListN.{length, get_or, take, drop, length-drop, drop_of_length-le}
 use lib.Seq.{drop-cons, take_all}
-use Rattle.tool_words.specs.declared.filenames.Law.TheVariants.{Known, Unknown}
+use Rattle.std.specs.Prelude.{Some, None}
 use Rattle.tool_words.specs.Names.{place_after, place_from, ending_at, law_told, new_ending, new_name}
 
 -- an ending's place: one octet more, and the end
@@ -25,11 +25,11 @@ module _ (name : List ℕ) (none place i : ℕ) where
 
 -- the name of what is written, as its two parts
 module _ (packs : Bool) (law : ℕ) (name : List ℕ) where
-  pub name-appended : (e : List ℕ) → law_told packs name ≡ Unknown → e ≡ 0x2E ∷ new_ending packs law → name ++ e ≡ new_name packs law name
+  pub name-appended : (e : List ℕ) → law_told packs name ≡ None → e ≡ 0x2E ∷ new_ending packs law → name ++ e ≡ new_name packs law name
   unfolding new_name
   name-appended e t l = rw (t, l)
 
-  pub name-replaced : (at l : ℕ) (e : List ℕ) → law_told packs name ≡ Known l → at ≡ ending_at name → 4 ≡ length e
+  pub name-replaced : (at l : ℕ) (e : List ℕ) → law_told packs name ≡ Some l → at ≡ ending_at name → 4 ≡ length e
       → e ≡ 0x2E ∷ new_ending packs law → take at name ++ take 3 (drop 1 e) ≡ new_name packs law name
   unfolding new_name
   name-replaced at l e t p n q = rw (t, take_all 3 (drop 1 e) (omega (arith, length-drop 1 e)), p, q)

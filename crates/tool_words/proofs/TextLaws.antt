@@ -10,6 +10,7 @@ use lib.Seq.{drop-cons, take-length, take_at, drop_at, drop-drop}
 use lib.Dec.{eqb, leb}
 use borrow.Author.Tests.{eq-eqb, ne_eqb, eqb-true, le-leb, lt-leb, leb-true}
 use Rattle.rules.proofs.Lent.{from_on}
+use Rattle.std.specs.Prelude.{Option, Some, None, IfSome}
 use Rattle.tool_words.specs.Texts.{same, Laid}
 
 -- texts of different lengths differ
@@ -71,29 +72,29 @@ module _ (first second out : List ℕ) where
       rw (none, append-nil, f, from_on o (length first), take-length, front, back, drop-drop)
 
   pub lay-whole : {n : ℕ} {after : List ℕ} → length first + length second ≤ length out → n ≡ length first + length second
-      → after ≡ first ++ (second ++ drop n out) → Laid text out after n
+      → after ≡ first ++ (second ++ drop n out) → Laid text out after (Some n)
   lay-whole {n} {after} h e l =
       let k : length text ≡ length first + length second = length-append first second in
       let t : length text ≤ length out = omega (arith, k) in
       record {
-        count = rw (le-leb (length text) (length out) t) (e ∙ sym k);
+        count = rw (le-leb (length text) (length out) t) (ap Some (e ∙ sym k));
         lent = rw (le-leb (length text) (length out) t)
             (l ∙ sym (append_assoc first second (drop n out)) ∙ ap (λ (m : ℕ). text ++ drop m out) (e ∙ sym k));
       }
 
-  pub lay-none : length out < length first + length second → Laid text out out 0
+  pub lay-none : length out < length first + length second → Laid text out out None
   lay-none h =
       let t : length out < length text = omega (arith, length-append first second) in
       record { count = rw (lt-leb (length text) (length out) t); lent = rw (lt-leb (length text) (length out) t) }
 
 -- what is laid of an equal text
-pub laid_as : {a b out out' : List ℕ} {r : ℕ} → a ≡ b → Laid a out out' r → Laid b out out' r
+pub laid_as : {a b out out' : List ℕ} {r : Option ℕ} → a ≡ b → Laid a out out' r → Laid b out out' r
 laid_as {out = out} {out' = out'} {r = r} e t = subst (λ (l : List ℕ). Laid l out out' r) e t
 
 -- what is laid fits
-pub laid-fits : {text out out' : List ℕ} {r : ℕ} → Laid text out out' r → length out' ≡ length out → r ≤ length out'
-laid-fits {text} {out} {out'} {r} t n = go (leb (length text) (length out)) refl t.count
+pub laid-fits : {text out out' : List ℕ} {r : Option ℕ} → Laid text out out' r → length out' ≡ length out → IfSome r (λ n. n ≤ length out')
+laid-fits {text} {out} {out'} {r} t n = subst (λ (o : Option ℕ). IfSome o (λ m. m ≤ length out')) (sym t.count) (go (leb (length text) (length out)) refl)
   where
-    go : (b : Bool) → leb (length text) (length out) ≡ b → r ≡ cond b (length text) 0 → r ≤ length out'
-    go true h e = omega (arith, leb-true (length text) (length out) h)
-    go false h e = omega arith
+    go : (b : Bool) → leb (length text) (length out) ≡ b → IfSome (cond b (Some (length text)) None) (λ m. m ≤ length out')
+    go true h = omega (arith, leb-true (length text) (length out) h)
+    go false h = tt

@@ -3,7 +3,7 @@ ghost use Rattle.std.specs.Prelude.{◌≡◌, ◌∷◌, ◌+◌, ◌≤◌, le
 ghost use Rattle.tool_words.specs.Names.{place_after, ending_at, law_of_sound, law_of_stream, law_told, new_ending, new_name};
 ghost use Rattle.tool_words.specs.Texts.{Laid};
 
-use crate::texts::{is_same, lay};
+use crate::texts::lay;
 
 // Where an octet at place i leaves the ending's place.
 fn place_after(none: usize, place: usize, i: usize, octet: u8) -> usize
@@ -11,13 +11,11 @@ fn place_after(none: usize, place: usize, i: usize, octet: u8) -> usize
     ensures value { result ≡ place_after none place i octet }
     ensures most { result ≤ none }
 {
-    if octet == b'/' {
-        return none;
+    match octet {
+        b'/' => none,
+        b'.' => i + 1,
+        _ => place,
     }
-    if octet == b'.' {
-        return i + 1;
-    }
-    place
 }
 
 // An ending begins after the last '.' that is after the last '/'; where there is none it is empty, at the name's end.
@@ -27,65 +25,46 @@ pub fn ending_at(name: &[u8]) -> usize
 {
     let none = name.len();
     let mut place = none;
-    let mut i = 0;
-    while i < none {
-        place = place_after(none, place, i, name[i]);
-        i += 1;
+    for (i, octet) in name.iter().enumerate() {
+        place = place_after(none, place, i, *octet);
     }
     place
 }
 
-// What a name or an option tells of the law.
-#[derive(Clone, Copy)]
-pub enum Law {
-    Known(u32),
-    Unknown,
-}
-
 // The law that an ending of raw sound tells.
-fn law_of_sound(ending: &[u8]) -> Law
+#[tactic(auto, using(crate::proofs::Endings::ending_tests))]
+fn law_of_sound(ending: &[u8]) -> Option<u32>
     ensures { result ≡ law_of_sound ending.now }
 {
-    if is_same(ending, b"ul8") {
-        return Law::Known(1);
+    match ending {
+        b"ul8" | b"mu8" | b"mu" => Some(1),
+        b"al8" | b"al" => Some(0),
+        _ => None,
     }
-    if is_same(ending, b"mu8") {
-        return Law::Known(1);
-    }
-    if is_same(ending, b"mu") {
-        return Law::Known(1);
-    }
-    if is_same(ending, b"al8") {
-        return Law::Known(0);
-    }
-    if is_same(ending, b"al") {
-        return Law::Known(0);
-    }
-    Law::Unknown
 }
 
 // The law that an ending of a stream tells.
-fn law_of_stream(ending: &[u8]) -> Law
+#[tactic(auto, using(crate::proofs::Endings::ending_tests))]
+fn law_of_stream(ending: &[u8]) -> Option<u32>
     ensures { result ≡ law_of_stream ending.now }
 {
-    if is_same(ending, b"lcm") {
-        return Law::Known(1);
+    match ending {
+        b"lcm" => Some(1),
+        b"lca" => Some(0),
+        _ => None,
     }
-    if is_same(ending, b"lca") {
-        return Law::Known(0);
-    }
-    Law::Unknown
 }
 
 // The law that the name of what is read tells: `pack` reads sound, `unpack` a stream.
-pub fn law_told(packs: bool, name: &[u8]) -> Law
+pub fn law_told(packs: bool, name: &[u8]) -> Option<u32>
     ensures { result ≡ law_told packs name.now }
 {
-    let at = ending_at(name);
+    let ending = &name[ending_at(name)..];
     if packs {
-        return law_of_sound(&name[at..]);
+        law_of_sound(ending)
+    } else {
+        law_of_stream(ending)
     }
-    law_of_stream(&name[at..])
 }
 
 // The ending of what is written, after its '.'.
@@ -93,29 +72,22 @@ fn new_ending(packs: bool, law: u32) -> [u8; 4]
     ensures value { result ≡ 0x2E ∷ new_ending packs law }
     ensures size { 4 ≡ length result }
 {
-    if packs {
-        if law == 1 {
-            return [b'.', b'l', b'c', b'm'];
-        }
-        return [b'.', b'l', b'c', b'a'];
+    match (packs, law) {
+        (true, 1) => *b".lcm",
+        (true, _) => *b".lca",
+        (false, 1) => *b".muo",
+        (false, _) => *b".alo",
     }
-    if law == 1 {
-        return [b'.', b'm', b'u', b'o'];
-    }
-    [b'.', b'a', b'l', b'o']
 }
 
-// The name of what is written: an ending that tells a law is replaced, otherwise the new one is appended.
-// The answer is its length, 0 where it does not fit.
-pub fn new_name(packs: bool, law: u32, name: &[u8], out: &mut [u8]) -> usize
+// The name of what is written, and its length: an ending that tells a law is replaced, otherwise the new one is appended. There is none
+// where it does not fit.
+pub fn new_name(packs: bool, law: u32, name: &[u8], out: &mut [u8]) -> Option<usize>
     ensures { Laid (new_name packs law name.now) out.old out.new result }
 {
     let ending = new_ending(packs, law);
     match law_told(packs, name) {
-        Law::Unknown => lay(name, &ending, out),
-        Law::Known(_) => {
-            let at = ending_at(name);
-            lay(&name[..at], &ending[1..], out)
-        }
+        None => lay(name, &ending, out),
+        Some(_) => lay(&name[..ending_at(name)], &ending[1..], out),
     }
 }

@@ -1,12 +1,12 @@
 // The words of a command line: what an argument is, and the settings that the arguments make.
 ghost use Rattle.std.specs.Prelude.{◌≡◌};
 ghost use Rattle.tool_words.specs.Arguments.{reads_sound, has_outfile, set_at_first, unpack_letter, pack_letter, why_letter, mend_letter};
-ghost use Rattle.tool_words.specs.Arguments.{letter_of, numbered_by, argument_of, at_first};
-ghost use Rattle.tool_words.specs.Arguments.{onward, wrongly, with_file, with_law, with_form};
-ghost use Rattle.tool_words.specs.Arguments.{raised, with_flag, counted, with_number, with_master, with_argument, step_of, end_of, law_of};
+ghost use Rattle.tool_words.specs.Arguments.{letter_of, numbered_by, argument_of, at_first, onward, with_file};
+ghost use Rattle.tool_words.specs.Arguments.{raised, counted, with_argument, by_state, step_of, end_of, law_of};
 
-use crate::filenames::{Law, law_told};
-use crate::texts::{Number, number_in};
+use crate::filenames::law_told;
+use crate::texts::number_in;
+use std::fmt;
 
 // The tools: `unpack`, `pack`, `why`, which says why `pack` takes its tools, and `mend`.
 #[derive(Clone, Copy)]
@@ -15,6 +15,17 @@ pub enum Tool {
     Pack,
     Why,
     Mend,
+}
+
+impl fmt::Display for Tool {
+    fn fmt<W: fmt::Write>(&self, f: &mut fmt::Formatter<W>) -> fmt::Result {
+        f.write_str(match self {
+            Tool::Unpack => "unpack",
+            Tool::Pack => "pack",
+            Tool::Why => "why",
+            Tool::Mend => "mend",
+        })
+    }
 }
 
 // The form of the sound: raw G.711, linear values, or a WAV file.
@@ -35,6 +46,7 @@ pub enum Flag {
     On,
 }
 
+// Four bools, as each is said or not whatever the others are.
 #[derive(Clone, Copy)]
 pub struct Flags {
     pub fill: bool,
@@ -52,8 +64,8 @@ pub enum Count {
     Total,
 }
 
-// What an argument is: a file; an option that says something; one whose word, a number or MASTER's name, is the next argument; one with its
-// number; or nothing that is known.
+// What an argument is: a file; an option that says something; one whose word, a number or MASTER's name, is the next argument; or one with
+// its number.
 #[derive(Clone, Copy)]
 pub enum Argument {
     File,
@@ -62,8 +74,7 @@ pub enum Argument {
     Flag(Flag),
     Waits(Count),
     Master,
-    Counts(Count, Number),
-    Unknown,
+    Counts(Count, u32),
 }
 
 // What is wrong with an argument: an option that is not known, no number, a file too many, a word that is missing, or it is too long.
@@ -76,32 +87,49 @@ pub enum Wrong {
     TooLong,
 }
 
-// What the next argument is to be: any; the word of an option; or none counts, since this one was wrong.
+// The argument stands behind these words.
+impl fmt::Display for Wrong {
+    fn fmt<W: fmt::Write>(&self, f: &mut fmt::Formatter<W>) -> fmt::Result {
+        f.write_str(match self {
+            Wrong::Unknown => "not a known option: ",
+            Wrong::NoNumber => "not a number of 1 to 9 digits: ",
+            Wrong::ManyFiles => "one file too many: ",
+            Wrong::Missing => "nothing follows the option ",
+            Wrong::TooLong => "too long: ",
+        })
+    }
+}
+
+// What is wrong, and with which argument.
+#[derive(Clone, Copy)]
+pub struct Mistake {
+    pub why: Wrong,
+    pub place: usize,
+}
+
+// What the next argument is to be: any, or the word of an option.
+// No Option or Result: it has three cases of its own.
 #[derive(Clone, Copy)]
 pub enum State {
     Ready,
     Counts(Count),
     Master,
-    Wrong(Wrong, usize),
 }
 
-// The settings that the arguments make. Files are given by their arguments' numbers, 0 is none. `only` says that a frame is told, `known`
-// that a total is.
+// The settings that the arguments make. Files are given by their arguments' numbers. Of all frames where none is said.
 #[derive(Clone, Copy)]
 pub struct Settings {
     pub tool: Tool,
-    pub law: Law,
+    pub law: Option<u32>,
     pub form: Form,
     pub flags: Flags,
     pub length: u32,
     pub set: u32,
-    pub only: bool,
-    pub frame: u32,
-    pub known: bool,
-    pub total: u32,
-    pub infile: usize,
-    pub outfile: usize,
-    pub master: usize,
+    pub frame: Option<u32>,
+    pub total: Option<u32>,
+    pub infile: Option<usize>,
+    pub outfile: Option<usize>,
+    pub master: Option<usize>,
 }
 
 // The settings so far, and what comes next.
@@ -118,24 +146,14 @@ pub const FIELD_TOOLS: u32 = 127;
 pub fn reads_sound(tool: Tool) -> bool
     ensures { result ≡ reads_sound tool }
 {
-    match tool {
-        Tool::Unpack => false,
-        Tool::Pack => true,
-        Tool::Why => true,
-        Tool::Mend => false,
-    }
+    matches!(tool, Tool::Pack | Tool::Why)
 }
 
 // `why` writes no file.
 fn has_outfile(tool: Tool) -> bool
     ensures { result ≡ has_outfile tool }
 {
-    match tool {
-        Tool::Unpack => true,
-        Tool::Pack => true,
-        Tool::Why => false,
-        Tool::Mend => true,
-    }
+    !matches!(tool, Tool::Why)
 }
 
 // The set unless one is said. A reader's larger set changes the answer of no other frame, so what reads frames has all tools.
@@ -143,38 +161,34 @@ fn set_at_first(tool: Tool) -> u32
     ensures { result ≡ set_at_first tool }
 {
     if reads_sound(tool) {
-        return FIELD_TOOLS;
+        FIELD_TOOLS
+    } else {
+        rules::ALL_TOOLS
     }
-    rules::ALL_TOOLS
 }
 
 // Before any argument.
 pub fn at_first(tool: Tool) -> Words
     ensures { result ≡ at_first tool }
 {
-    let set = set_at_first(tool);
-    let flags = Flags {
-        fill: false,
-        records: false,
-        lists: false,
-        on: false,
-    };
-    let said = Settings {
+    onward(Settings {
         tool,
-        law: Law::Unknown,
+        law: None,
         form: Form::Raw,
-        flags,
+        flags: Flags {
+            fill: false,
+            records: false,
+            lists: false,
+            on: false,
+        },
         length: 160,
-        set,
-        only: false,
-        frame: 0,
-        known: false,
-        total: 0,
-        infile: 0,
-        outfile: 0,
-        master: 0,
-    };
-    onward(said)
+        set: set_at_first(tool),
+        frame: None,
+        total: None,
+        infile: None,
+        outfile: None,
+        master: None,
+    })
 }
 
 fn onward(said: Settings) -> Words
@@ -186,141 +200,109 @@ fn onward(said: Settings) -> Words
     }
 }
 
-fn wrongly(said: Settings, why: Wrong, index: usize) -> Words
-    ensures { result ≡ wrongly said why index }
-{
-    Words {
-        said,
-        state: State::Wrong(why, index),
-    }
-}
-
 // The options of `unpack`, beside the laws: "-l", "-w", "-s#", "-c MASTER", "-v", "-g".
-fn unpack_letter(letter: u8) -> Argument
+fn unpack_letter(letter: u8) -> Result<Argument, Wrong>
     ensures { result ≡ unpack_letter letter }
 {
     match letter {
-        b'l' => Argument::Form(Form::Linear),
-        b'w' => Argument::Form(Form::Wave),
-        b's' => Argument::Waits(Count::Set),
-        b'c' => Argument::Master,
-        b'v' => Argument::Flag(Flag::Lists),
-        b'g' => Argument::Flag(Flag::On),
-        _ => Argument::Unknown,
+        b'l' => Ok(Argument::Form(Form::Linear)),
+        b'w' => Ok(Argument::Form(Form::Wave)),
+        b's' => Ok(Argument::Waits(Count::Set)),
+        b'c' => Ok(Argument::Master),
+        b'v' => Ok(Argument::Flag(Flag::Lists)),
+        b'g' => Ok(Argument::Flag(Flag::On)),
+        _ => Err(Wrong::Unknown),
     }
 }
 
 // Those of `pack`: "-l", "-w", "-n#", "-s#", "-f", "-r".
-fn pack_letter(letter: u8) -> Argument
+fn pack_letter(letter: u8) -> Result<Argument, Wrong>
     ensures { result ≡ pack_letter letter }
 {
     match letter {
-        b'l' => Argument::Form(Form::Linear),
-        b'w' => Argument::Form(Form::Wave),
-        b'n' => Argument::Waits(Count::Length),
-        b's' => Argument::Waits(Count::Set),
-        b'f' => Argument::Flag(Flag::Fill),
-        b'r' => Argument::Flag(Flag::Records),
-        _ => Argument::Unknown,
+        b'l' => Ok(Argument::Form(Form::Linear)),
+        b'w' => Ok(Argument::Form(Form::Wave)),
+        b'n' => Ok(Argument::Waits(Count::Length)),
+        b's' => Ok(Argument::Waits(Count::Set)),
+        b'f' => Ok(Argument::Flag(Flag::Fill)),
+        b'r' => Ok(Argument::Flag(Flag::Records)),
+        _ => Err(Wrong::Unknown),
     }
 }
 
 // Those of `why`: "-s#", "-n#", "-k#". It reads raw sound alone.
-fn why_letter(letter: u8) -> Argument
+fn why_letter(letter: u8) -> Result<Argument, Wrong>
     ensures { result ≡ why_letter letter }
 {
     match letter {
-        b's' => Argument::Waits(Count::Set),
-        b'n' => Argument::Waits(Count::Length),
-        b'k' => Argument::Waits(Count::Frame),
-        _ => Argument::Unknown,
+        b's' => Ok(Argument::Waits(Count::Set)),
+        b'n' => Ok(Argument::Waits(Count::Length)),
+        b'k' => Ok(Argument::Waits(Count::Frame)),
+        _ => Err(Wrong::Unknown),
     }
 }
 
 // That of `mend`: "-t#".
-fn mend_letter(letter: u8) -> Argument
+fn mend_letter(letter: u8) -> Result<Argument, Wrong>
     ensures { result ≡ mend_letter letter }
 {
-    if letter == b't' {
-        return Argument::Waits(Count::Total);
+    match letter {
+        b't' => Ok(Argument::Waits(Count::Total)),
+        _ => Err(Wrong::Unknown),
     }
-    Argument::Unknown
 }
 
 // An option of one letter, or one whose word is the next argument: "-u", "-a", and those of the tool.
-fn letter_option(tool: Tool, letter: u8) -> Argument
+fn letter_option(tool: Tool, letter: u8) -> Result<Argument, Wrong>
     ensures { result ≡ letter_of tool letter }
 {
-    if letter == b'u' {
-        return Argument::Law(1);
-    }
-    if letter == b'a' {
-        return Argument::Law(0);
-    }
-    match tool {
-        Tool::Unpack => unpack_letter(letter),
-        Tool::Pack => pack_letter(letter),
-        Tool::Why => why_letter(letter),
-        Tool::Mend => mend_letter(letter),
+    match (letter, tool) {
+        (b'u', _) => Ok(Argument::Law(1)),
+        (b'a', _) => Ok(Argument::Law(0)),
+        (_, Tool::Unpack) => unpack_letter(letter),
+        (_, Tool::Pack) => pack_letter(letter),
+        (_, Tool::Why) => why_letter(letter),
+        (_, Tool::Mend) => mend_letter(letter),
     }
 }
 
 // An option with its number: one that waits for a number.
-fn numbered_option(option: Argument, rest: &[u8]) -> Argument
+fn numbered_option(option: Argument, rest: &[u8]) -> Result<Argument, Wrong>
     ensures { result ≡ numbered_by option rest.now }
 {
     match option {
         Argument::Waits(which) => {
-            let n = number_in(rest);
-            Argument::Counts(which, n)
+            let n = number_in(rest).ok_or(Wrong::NoNumber)?;
+            Ok(Argument::Counts(which, n))
         }
-        Argument::File => Argument::Unknown,
-        Argument::Law(_) => Argument::Unknown,
-        Argument::Form(_) => Argument::Unknown,
-        Argument::Flag(_) => Argument::Unknown,
-        Argument::Master => Argument::Unknown,
-        Argument::Counts(_, _) => Argument::Unknown,
-        Argument::Unknown => Argument::Unknown,
+        _ => Err(Wrong::Unknown),
     }
 }
 
 // What an argument is; "-" alone is a file, and so is what has no '-' in front; an empty one is nothing that is known.
-pub fn argument_in(tool: Tool, text: &[u8]) -> Argument
+pub fn argument_in(tool: Tool, text: &[u8]) -> Result<Argument, Wrong>
     ensures { result ≡ argument_of tool text.now }
 {
-    if text.len() == 0 {
-        return Argument::Unknown;
+    match text {
+        [] => Err(Wrong::Unknown),
+        [b'-', letter] => letter_option(tool, *letter),
+        [b'-', letter, rest @ ..] => numbered_option(letter_option(tool, *letter)?, rest),
+        _ => Ok(Argument::File),
     }
-    if text.len() == 1 {
-        return Argument::File;
-    }
-    if text[0] != b'-' {
-        return Argument::File;
-    }
-    let option = letter_option(tool, text[1]);
-    if text.len() == 2 {
-        return option;
-    }
-    numbered_option(option, &text[2..])
 }
 
 // The first file is INFILE, the second OUTFILE, which `why` does not have, and there is no third.
-fn with_file(mut s: Settings, index: usize) -> Words
+fn with_file(mut s: Settings, index: usize) -> Result<Settings, Wrong>
     ensures { result ≡ with_file s index }
 {
-    if s.infile == 0 {
-        s.infile = index;
-        return onward(s);
+    if s.infile.is_none() {
+        s.infile = Some(index);
+    } else if s.outfile.is_none() && has_outfile(s.tool) {
+        s.outfile = Some(index);
+    } else {
+        return Err(Wrong::ManyFiles);
     }
-    let tool = s.tool;
-    if !has_outfile(tool) {
-        return wrongly(s, Wrong::ManyFiles, index);
-    }
-    if s.outfile == 0 {
-        s.outfile = index;
-        return onward(s);
-    }
-    wrongly(s, Wrong::ManyFiles, index)
+    Ok(s)
 }
 
 // One of the flags is said.
@@ -328,79 +310,12 @@ fn raised(mut f: Flags, which: Flag) -> Flags
     ensures { result ≡ raised f which }
 {
     match which {
-        Flag::Fill => {
-            f.fill = true;
-            f
-        }
-        Flag::Records => {
-            f.records = true;
-            f
-        }
-        Flag::Lists => {
-            f.lists = true;
-            f
-        }
-        Flag::On => {
-            f.on = true;
-            f
-        }
+        Flag::Fill => f.fill = true,
+        Flag::Records => f.records = true,
+        Flag::Lists => f.lists = true,
+        Flag::On => f.on = true,
     }
-}
-
-fn with_flag(mut s: Settings, which: Flag) -> Settings
-    ensures { result ≡ with_flag s which }
-{
-    let f = raised(s.flags, which);
-    s.flags = f;
-    s
-}
-
-// "-u", "-a".
-fn with_law(s: Settings, law: u32) -> Settings
-    ensures { result ≡ with_law s law }
-{
-    let tool = s.tool;
-    let form = s.form;
-    let flags = s.flags;
-    Settings {
-        tool,
-        law: Law::Known(law),
-        form,
-        flags,
-        length: s.length,
-        set: s.set,
-        only: s.only,
-        frame: s.frame,
-        known: s.known,
-        total: s.total,
-        infile: s.infile,
-        outfile: s.outfile,
-        master: s.master,
-    }
-}
-
-// "-l", "-w".
-fn with_form(s: Settings, form: Form) -> Settings
-    ensures { result ≡ with_form s form }
-{
-    let tool = s.tool;
-    let law = s.law;
-    let flags = s.flags;
-    Settings {
-        tool,
-        law,
-        form,
-        flags,
-        length: s.length,
-        set: s.set,
-        only: s.only,
-        frame: s.frame,
-        known: s.known,
-        total: s.total,
-        infile: s.infile,
-        outfile: s.outfile,
-        master: s.master,
-    }
+    f
 }
 
 // "-n#", "-s#", "-k#", "-t#".
@@ -408,135 +323,75 @@ fn counted(mut s: Settings, which: Count, v: u32) -> Settings
     ensures { result ≡ counted s which v }
 {
     match which {
-        Count::Length => {
-            s.length = v;
-            s
-        }
-        Count::Set => {
-            s.set = v;
-            s
-        }
-        Count::Frame => {
-            s.only = true;
-            s.frame = v;
-            s
-        }
-        Count::Total => {
-            s.known = true;
-            s.total = v;
-            s
-        }
+        Count::Length => s.length = v,
+        Count::Set => s.set = v,
+        Count::Frame => s.frame = Some(v),
+        Count::Total => s.total = Some(v),
     }
+    s
 }
 
-// An option's number.
-fn with_number(s: Settings, which: Count, n: Number, index: usize) -> Words
-    ensures { result ≡ with_number s which n index }
-{
-    match n {
-        Number::Is(v) => {
-            let said = counted(s, which, v);
-            onward(said)
-        }
-        Number::Not => wrongly(s, Wrong::NoNumber, index),
-    }
-}
-
-// "-c MASTER".
-fn with_master(mut s: Settings, index: usize) -> Words
-    ensures { result ≡ with_master s index }
-{
-    s.master = index;
-    onward(s)
-}
-
-fn with_argument(s: Settings, a: Argument, index: usize) -> Words
+fn with_argument(mut s: Settings, a: Argument, index: usize) -> Result<Words, Wrong>
     ensures { result ≡ with_argument s a index }
 {
     match a {
-        Argument::File => with_file(s, index),
-        Argument::Law(law) => {
-            let said = with_law(s, law);
-            onward(said)
-        }
-        Argument::Form(form) => {
-            let said = with_form(s, form);
-            onward(said)
-        }
-        Argument::Flag(flag) => {
-            let said = with_flag(s, flag);
-            onward(said)
-        }
-        Argument::Waits(which) => Words {
+        Argument::File => s = with_file(s, index)?,
+        Argument::Law(law) => s.law = Some(law),
+        Argument::Form(form) => s.form = form,
+        Argument::Flag(flag) => s.flags = raised(s.flags, flag),
+        Argument::Counts(which, n) => s = counted(s, which, n),
+        Argument::Waits(which) => return Ok(Words {
             said: s,
             state: State::Counts(which),
-        },
-        Argument::Master => Words {
+        }),
+        Argument::Master => return Ok(Words {
             said: s,
             state: State::Master,
-        },
-        Argument::Counts(which, n) => with_number(s, which, n, index),
-        Argument::Unknown => wrongly(s, Wrong::Unknown, index),
+        }),
     }
+    Ok(onward(s))
 }
 
-// The settings after argument `index`; what is wrong once stays so.
-pub fn step(w: Words, text: &[u8], index: usize) -> Words
+// The word of an option that waited for one, or an argument of its own.
+fn taken(w: Words, text: &[u8], index: usize) -> Result<Words, Wrong>
+    ensures { result ≡ by_state w w.state text.now index }
+{
+    let mut said = w.said;
+    match w.state {
+        State::Ready => return with_argument(said, argument_in(said.tool, text)?, index),
+        State::Counts(which) => said = counted(
+            said,
+            which,
+            number_in(text).ok_or(Wrong::NoNumber)?,
+        ),
+        State::Master => said.master = Some(index),
+    }
+    Ok(onward(said))
+}
+
+// The settings after argument `index`, or what is wrong with it.
+pub fn step(w: Words, text: &[u8], index: usize) -> Result<Words, Mistake>
     ensures { result ≡ step_of w text.now index }
 {
-    let said = w.said;
-    let state = w.state;
-    match state {
-        State::Ready => {
-            let tool = said.tool;
-            let a = argument_in(tool, text);
-            with_argument(said, a, index)
-        }
-        State::Counts(which) => {
-            let n = number_in(text);
-            with_number(said, which, n, index)
-        }
-        State::Master => with_master(said, index),
-        State::Wrong(_, _) => w,
-    }
-}
-
-// The settings after an argument that is too long.
-pub fn too_long(w: Words, index: usize) -> Words {
-    let said = w.said;
-    let state = w.state;
-    match state {
-        State::Ready => wrongly(said, Wrong::TooLong, index),
-        State::Counts(_) => wrongly(said, Wrong::TooLong, index),
-        State::Master => wrongly(said, Wrong::TooLong, index),
-        State::Wrong(_, _) => w,
-    }
+    taken(w, text, index).map_err(|why| Mistake { why, place: index })
 }
 
 // The settings after the last argument.
-pub fn at_end(w: Words, last: usize) -> Words
+pub fn at_end(w: Words, last: usize) -> Result<Settings, Mistake>
     ensures { result ≡ end_of w last }
 {
-    let said = w.said;
-    let state = w.state;
-    match state {
-        State::Ready => w,
-        State::Counts(_) => wrongly(said, Wrong::Missing, last),
-        State::Master => wrongly(said, Wrong::Missing, last),
-        State::Wrong(_, _) => w,
+    match w.state {
+        State::Ready => Ok(w.said),
+        State::Counts(_) | State::Master => Err(Mistake {
+            why: Wrong::Missing,
+            place: last,
+        }),
     }
 }
 
 // The law: as an option says, otherwise as INFILE's name tells.
-pub fn law_of(s: Settings, name: &[u8]) -> Law
+pub fn law_of(s: Settings, name: &[u8]) -> Option<u32>
     ensures { result ≡ law_of s name.now }
 {
-    let law = s.law;
-    match law {
-        Law::Known(_) => law,
-        Law::Unknown => {
-            let tool = s.tool;
-            law_told(reads_sound(tool), name)
-        }
-    }
+    s.law.or_else(|| law_told(reads_sound(s.tool), name))
 }

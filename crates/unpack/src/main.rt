@@ -2,24 +2,35 @@
 // their sound are stands in crate `tool_playback`, what the arguments mean in `tool_words`, what is said in `tool_console`.
 #![tactic(auto)]
 
-ghost use Rattle.std.specs.Prelude.{◌≡◌, false, ◌^◌, ◌≤◌, ◌<◌, length};
-ghost use Rattle.rules.specs.declared.Ending.TheVariants.{Done};
+ghost use Rattle.std.specs.Prelude.{◌≡◌, ◌^◌, ◌≤◌, ◌<◌, Ok, length};
 ghost use Rattle.rules.specs.Walk.{longest};
 ghost use Rattle.recording.specs.Remembered.{heading_length};
 ghost use Rattle.tool_playback.specs.Runs.{Reachable, Lawful, Within};
 
 use recording::marking::HEADING;
-use rules::Ending;
+use rules::{Ending, Numbered};
 use std::fs::File;
 use std::io;
-use tool_console::{InFile, OutFile, Source};
+use tool_console::{InFile, Names, OutFile, Source, no_error};
 use tool_playback::kinds::Kind;
 use tool_playback::parts::Reading;
 use tool_playback::playing::{Body, Total, play_file};
 use tool_playback::telling::Tells;
 use tool_sound::sounds::{Trouble, Way};
-use tool_words::filenames::Law;
 use tool_words::options::{Flags, Form, Settings, Tool};
+
+// A call that can't be met, why, and the last line.
+fn usage(rt: HostRuntime, why: &str) {
+    tool_console::usage(rt, Tool::Unpack, why);
+}
+
+fn unread(rt: HostRuntime, name: &[u8], why: io::Error) {
+    tool_console::unread(rt, Tool::Unpack, name, why);
+}
+
+fn unwritten(rt: HostRuntime, name: &[u8], why: io::Error) {
+    tool_console::unwritten(rt, Tool::Unpack, name, why);
+}
 
 // Losses end a run with a status of their own, unless it is to go on.
 fn stop_well(rt: HostRuntime, t: Total, on: bool) {
@@ -27,9 +38,10 @@ fn stop_well(rt: HostRuntime, t: Total, on: bool) {
         tool_console::stop(rt, Tool::Unpack, 0, t.at, 0, 0);
         return;
     }
-    tool_console::say(
+    tool_console::tell(
         rt,
-        b"unpack: the recording has losses, so this is not all of its sound; -g goes on all the same\n",
+        Tool::Unpack,
+        "the recording has losses, so this is not all of its sound; -g goes on all the same",
     );
     tool_console::stop(rt, Tool::Unpack, 66, t.at, 0, 0);
 }
@@ -46,24 +58,18 @@ fn say_done(rt: HostRuntime, t: Total, records: bool)
 }
 
 // The last lines of a run in which nothing is wrong with the files: what was done, and the refusal if there is one.
+// No flag beside the number: 0 is no refusal, and it is what the last line prints.
 fn finish(rt: HostRuntime, t: Total, records: bool, on: bool)
     requires { Within longest t }
 {
     say_done(rt, t, records);
-    let end = t.end;
-    let number = recording::number_of(end);
-    if number != 0 {
-        tool_console::refused(
-            rt,
-            Tool::Unpack,
-            number,
-            t.at,
-            recording::tool_of(end),
-            t.bit,
-        );
-        return;
+    let number = rules::number_of(t.end);
+    if number == 0 {
+        stop_well(rt, t, on);
+    } else {
+        let tool = recording::tool_of(t.end);
+        tool_console::refused(rt, Tool::Unpack, number, t.at, tool, t.bit);
     }
-    stop_well(rt, t, on);
 }
 
 // Opens the file, and finds out how many octets it has.
@@ -74,26 +80,12 @@ fn source_in(rt: HostRuntime, name: &[u8], part: &mut [u8]) -> io::Result<Source
     tool_console::source_of(rt, &fd, rules::LONGEST + HEADING, part)
 }
 
-// The same; says what failed.
-fn open_file(rt: HostRuntime, name: &[u8], part: &mut [u8]) -> Option<Source>
-    requires { (1 ≤ length part.old) × (length part.old < 2 ^ 32) }
-{
-    match source_in(rt, name, part) {
-        Ok(source) => Some(source),
-        Err(why) => {
-            tool_console::failed(rt, Tool::Unpack, name, b"standard input", why);
-            None
-        }
-    }
-}
-
 // A WAV file tells before its sound how long it is: the frames are read once for that.
 fn wave_heading(rt: HostRuntime, file: &File, b: Body, how: Reading, fd: &OutFile) -> io::Result<()>
     requires { Reachable b × Lawful how }
 {
     let t = play_file(rt, file, b, how, Way::Counted, Tells::Nothing);
-    let wrong = t.wrong;
-    if !tool_sound::sounds::is_well(wrong) {
+    if t.wrong.is_err() {
         return Ok(());
     }
     tool_sound::sounds::write_heading(fd, t.samples)
@@ -111,58 +103,28 @@ fn heading_written(
     requires { Reachable b × Lawful how }
 {
     match form {
-        Form::Raw => Ok(()),
-        Form::Linear => Ok(()),
+        Form::Raw | Form::Linear => Ok(()),
         Form::Wave => wave_heading(rt, file, b, how, fd),
     }
 }
 
 // What is told of a recording's items; a stream has no losses.
 fn tells_of(f: Flags) -> Tells {
-    if f.lists {
-        return Tells::All;
-    }
-    Tells::Losses
-}
-
-// The names of INFILE, and of OUTFILE or the master.
-#[derive(Clone, Copy)]
-struct Names<'a> {
-    from: &'a [u8],
-    to: &'a [u8],
+    if f.lists { Tells::All } else { Tells::Losses }
 }
 
 // What came of writing the sound, and the last lines.
 fn written(rt: HostRuntime, t: Total, how: Reading, on: bool, names: Names<'_>, fd: OutFile)
     requires { Within longest t }
 {
-    let wrong = t.wrong;
-    match wrong {
-        Trouble::Unread(why) => tool_console::failed(
-            rt,
-            Tool::Unpack,
-            names.from,
-            b"standard input",
-            why,
-        ),
-        Trouble::Nothing => match tool_console::close(fd) {
+    match t.wrong {
+        Ok(()) => match tool_console::close(fd) {
             Ok(()) => finish(rt, t, how.records, on),
-            Err(why) => tool_console::failed(rt, Tool::Unpack, names.to, b"standard output", why),
+            Err(why) => unwritten(rt, names.to, why),
         },
-        Trouble::Failed(why) => tool_console::failed(
-            rt,
-            Tool::Unpack,
-            names.to,
-            b"standard output",
-            why,
-        ),
-        Trouble::Master(_) => tool_console::failed(
-            rt,
-            Tool::Unpack,
-            names.to,
-            b"standard output",
-            io::Error::from_raw_os_error(NO_ERROR),
-        ),
+        Err(Trouble::Unread(why)) => unread(rt, names.from, why),
+        Err(Trouble::Failed(why)) => unwritten(rt, names.to, why),
+        Err(Trouble::Master(_)) => unwritten(rt, names.to, no_error()),
     }
 }
 
@@ -178,15 +140,19 @@ fn write_in(
 )
     requires { Reachable b × Lawful how }
 {
-    let f = s.flags;
-    let form = s.form;
-    if let Err(why) = heading_written(rt, file, b, how, form, &fd) {
-        tool_console::failed(rt, Tool::Unpack, names.to, b"standard output", why);
+    if let Err(why) = heading_written(rt, file, b, how, s.form, &fd) {
+        unwritten(rt, names.to, why);
         return;
     }
-    let tells = tells_of(f);
-    let t = play_file(rt, file, b, how, Way::Written(&fd, form), tells);
-    written(rt, t, how, f.on, names, fd);
+    let t = play_file(
+        rt,
+        file,
+        b,
+        how,
+        Way::Written(&fd, s.form),
+        tells_of(s.flags),
+    );
+    written(rt, t, how, s.flags.on, names, fd);
 }
 
 // Writes the sound of a file to another.
@@ -195,82 +161,24 @@ fn write_to(rt: HostRuntime, file: &File, b: Body, how: Reading, s: Settings, na
 {
     match tool_console::open_out(rt, names.to) {
         Ok(fd) => write_in(rt, file, b, how, s, names, fd),
-        Err(why) => tool_console::failed(rt, Tool::Unpack, names.to, b"standard output", why),
+        Err(why) => unwritten(rt, names.to, why),
     }
 }
 
-// What a master has left over once all of the sound agrees.
-fn conclude(rt: HostRuntime, t: Total, records: bool, on: bool, fd: &InFile, name: &[u8])
-    requires { Within longest t }
-{
-    let wrong = tool_sound::sounds::left_over(fd);
-    match wrong {
-        Trouble::Nothing => finish(rt, t, records, on),
-        Trouble::Master(how) => tool_sound::sounds::differs(rt, how, t.samples),
-        Trouble::Failed(why) => tool_console::failed(
-            rt,
-            Tool::Unpack,
-            name,
-            b"standard input",
-            why,
-        ),
-        Trouble::Unread(why) => tool_console::failed(
-            rt,
-            Tool::Unpack,
-            name,
-            b"standard input",
-            why,
-        ),
-    }
-}
-
-// What a comparison came to. A frame that is refused comes before what a master has left over.
+// What a comparison came to. A frame that is refused comes before what a master has left over once all of the sound agrees.
 fn compared(rt: HostRuntime, t: Total, how: Reading, on: bool, names: Names<'_>, fd: &InFile)
     requires { Within longest t }
 {
-    let wrong = t.wrong;
-    match wrong {
-        Trouble::Unread(why) => tool_console::failed(
-            rt,
-            Tool::Unpack,
-            names.from,
-            b"standard input",
-            why,
-        ),
-        Trouble::Failed(why) => tool_console::failed(
-            rt,
-            Tool::Unpack,
-            names.to,
-            b"standard input",
-            why,
-        ),
-        Trouble::Master(how) => tool_sound::sounds::differs(rt, how, t.samples),
-        Trouble::Nothing => {
-            let end = t.end;
-            if recording::number_of(end) != 0 {
-                finish(rt, t, how.records, on);
-                return;
-            }
-            conclude(rt, t, how.records, on, fd, names.to);
-        }
+    let mut wrong = t.wrong;
+    if wrong.is_ok() && t.end.is_ok() {
+        wrong = tool_sound::sounds::left_over(fd);
     }
-}
-
-// The sound of a file, compared with a master that was opened.
-fn compare_in(
-    rt: HostRuntime,
-    file: &File,
-    b: Body,
-    how: Reading,
-    f: Flags,
-    names: Names<'_>,
-    fd: &InFile,
-)
-    requires { Reachable b × Lawful how }
-{
-    let tells = tells_of(f);
-    let t = play_file(rt, file, b, how, Way::Compared(fd), tells);
-    compared(rt, t, how, f.on, names, fd);
+    match wrong {
+        Ok(()) => finish(rt, t, how.records, on),
+        Err(Trouble::Unread(why)) => unread(rt, names.from, why),
+        Err(Trouble::Failed(why)) => unread(rt, names.to, why),
+        Err(Trouble::Master(how)) => tool_sound::sounds::differs(rt, how, t.samples),
+    }
 }
 
 // Compares the sound of a file with a master.
@@ -278,25 +186,22 @@ fn compare_with(rt: HostRuntime, file: &File, b: Body, how: Reading, s: Settings
     requires { Reachable b × Lawful how }
 {
     match tool_console::open_in(rt, names.to) {
-        Ok(fd) => compare_in(rt, file, b, how, s.flags, names, &fd),
-        Err(why) => tool_console::failed(rt, Tool::Unpack, names.to, b"standard input", why),
+        Ok(fd) => {
+            let t = play_file(rt, file, b, how, Way::Compared(&fd), tells_of(s.flags));
+            compared(rt, t, how, s.flags.on, names, &fd);
+        }
+        Err(why) => unread(rt, names.to, why),
     }
 }
 
-// The system's number where no call failed.
-const NO_ERROR: i32 = 0;
-
-// LAW, SET and LONG are told before any frame is read.
-fn refuses(rt: HostRuntime, end: Ending) -> bool
-    ensures { result ≡ false → end ≡ Done }
+// LAW, SET and LONG are told before any frame is read. The same ending, once a refusal is said.
+fn judged(rt: HostRuntime, end: Ending) -> Ending
+    ensures { result ≡ end }
 {
-    match end {
-        Ending::Refused(why) => {
-            tool_console::refused(rt, Tool::Unpack, rules::refusal_number(why), 0, 0, 0);
-            true
-        }
-        Ending::Done => false,
+    if let Err(why) = end {
+        tool_console::refused(rt, Tool::Unpack, why.number(), 0, 0, 0);
     }
+    end
 }
 
 // The octets of a file's frames to the other file: OUTFILE or the master. `name` is INFILE.
@@ -304,72 +209,42 @@ fn to_other(rt: HostRuntime, file: &File, b: Body, how: Reading, s: Settings, na
     requires { Reachable b × Lawful how }
 {
     let mut space = [0u8; 4095];
-    if s.master != 0 {
-        let n = tool_console::file_name(rt, s.master, &mut space);
-        let names = Names {
-            from: name,
-            to: &space[..n],
-        };
-        compare_with(rt, file, b, how, s, names);
+    if s.master.is_some() {
+        let to = tool_console::file_name(rt, s.master, &mut space);
+        compare_with(rt, file, b, how, s, Names { from: name, to });
         return;
     }
-    let target = tool_console::target_name(rt, s, how.law, name, &mut space);
-    let n = target.len;
-    if !target.fits {
-        tool_console::usage(rt, Tool::Unpack, b"OUTFILE's name would be too long");
-        return;
+    match tool_console::target_name(rt, s, how.law, name, &mut space) {
+        Some(to) => write_to(rt, file, b, how, s, Names { from: name, to }),
+        None => usage(rt, "OUTFILE's name would be too long"),
     }
-    let names = Names {
-        from: name,
-        to: &space[..n],
-    };
-    write_to(rt, file, b, how, s, names);
 }
 
 // The octets of a file's frames are judged before any of them is read.
 fn with_frames(rt: HostRuntime, file: &File, b: Body, how: Reading, s: Settings, name: &[u8])
     requires { b.skip ≤ heading_length }
 {
-    let e = rules::guard_stream(how.law, how.set, b.size);
-    if refuses(rt, e) {
-        return;
+    if judged(rt, rules::guard_stream(how.law, how.set, b.size)).is_ok() {
+        to_other(rt, file, b, how, s, name);
     }
-    to_other(rt, file, b, how, s, name);
 }
 
 // A stream: an option or INFILE's ending tells its law.
 fn with_stream(rt: HostRuntime, s: Settings, name: &[u8], fd: &File, size: usize) {
-    let f = s.flags;
-    if f.lists {
-        tool_console::usage(
+    if s.flags.lists {
+        usage(
             rt,
-            Tool::Unpack,
-            b"-v lists a recording's items, and this is a stream: listing lists its frames",
+            "-v lists a recording's items, and this is a stream: listing lists its frames",
         );
         return;
     }
-    match tool_words::options::law_of(s, name) {
-        Law::Unknown => tool_console::usage(
-            rt,
-            Tool::Unpack,
-            b"the law is not known: say -u or -a",
-        ),
-        Law::Known(law) => {
-            let how = Reading {
-                law,
-                set: s.set,
-                records: false,
-            };
-            with_frames(rt, fd, Body { skip: 0, size }, how, s, name);
-        }
-    }
-}
-
-// Whether an option says another law than the heading.
-fn says_other(said: Law, law: u32) -> bool {
-    match said {
-        Law::Known(other) => other != law,
-        Law::Unknown => false,
+    if let Some(law) = tool_console::law_of(rt, s, name) {
+        let how = Reading {
+            law,
+            set: s.set,
+            records: false,
+        };
+        with_frames(rt, fd, Body { skip: 0, size }, how, s, name);
     }
 }
 
@@ -377,13 +252,8 @@ fn says_other(said: Law, law: u32) -> bool {
 fn with_recording(rt: HostRuntime, s: Settings, law: u32, name: &[u8], fd: &File, size: usize)
     requires { heading_length ≤ size }
 {
-    let said = s.law;
-    if says_other(said, law) {
-        tool_console::usage(
-            rt,
-            Tool::Unpack,
-            b"the recording's heading says the other law",
-        );
+    if s.law.unwrap_or(law) != law {
+        usage(rt, "the recording's heading says the other law");
         return;
     }
     let body = Body {
@@ -400,9 +270,10 @@ fn with_recording(rt: HostRuntime, s: Settings, law: u32, name: &[u8], fd: &File
 
 // What begins as a recording and has no heading.
 fn headless(rt: HostRuntime) {
-    tool_console::say(
+    tool_console::tell(
         rt,
-        b"unpack: a recording's heading is cut, or of another law or version\n",
+        Tool::Unpack,
+        "a recording's heading is cut, or of another law or version",
     );
     tool_console::refused(rt, Tool::Unpack, 14, 0, 0, 0);
 }
@@ -411,109 +282,77 @@ fn headless(rt: HostRuntime) {
 fn with_file(rt: HostRuntime, s: Settings, name: &[u8], fd: &File, size: usize, first: &[u8]) {
     match tool_playback::kinds::kind_of(first) {
         Kind::Stream => with_stream(rt, s, name, fd, size),
-        Kind::Recording(law) => {
-            if size < HEADING {
-                headless(rt);
-                return;
-            }
-            with_recording(rt, s, law, name, fd, size);
-        }
-        Kind::Headless => headless(rt),
+        Kind::Recording(law) if HEADING <= size => with_recording(rt, s, law, name, fd, size),
+        Kind::Recording(_) | Kind::Headless => headless(rt),
     }
 }
 
 // The file's first octets.
-fn begin(rt: HostRuntime, s: Settings, name: &[u8], fd: &File, size: usize) {
+fn begin(rt: HostRuntime, s: Settings, name: &[u8], source: &Source) {
     let mut first = [0u8; 64];
-    let got = tool_console::read_at(fd, 0, &mut first);
-    if let Some(why) = got.failed {
-        tool_console::failed(rt, Tool::Unpack, name, b"standard input", why);
-        return;
+    match tool_console::read_at(&source.fd, 0, &mut first) {
+        Ok(n) => with_file(rt, s, name, &source.fd, source.size, &first[..n]),
+        Err(why) => unread(rt, name, why),
     }
-    let n = got.count;
-    with_file(rt, s, name, fd, size, &first[..n]);
 }
 
 // SET comes before the file.
 fn run(rt: HostRuntime, s: Settings, name: &[u8]) {
-    let e = rules::guard(0, s.set);
-    if refuses(rt, e) {
+    if judged(rt, rules::guard(0, s.set)).is_err() {
         return;
     }
     let mut part = [0u8; 61440];
-    if let Some(source) = open_file(rt, name, &mut part) {
-        begin(rt, s, name, &source.fd, source.size);
+    match source_in(rt, name, &mut part) {
+        Ok(source) => begin(rt, s, name, &source),
+        Err(why) => unread(rt, name, why),
     }
 }
 
-fn is_raw(form: Form) -> bool {
-    match form {
-        Form::Raw => true,
-        Form::Linear => false,
-        Form::Wave => false,
+// Whether -l or -w can't be met, and why: a master that is compared is raw G.711, and no ending is known for another form.
+fn wrong_form(s: Settings, name: &[u8]) -> Option<&'static str> {
+    if matches!(s.form, Form::Raw) {
+        None
+    } else if s.master.is_some() {
+        Some("-c compares raw G.711, so -l and -w don't go with it")
+    } else if s.outfile.is_none() && !name.is_empty() {
+        Some("with -l or -w OUTFILE must be said")
+    } else {
+        None
     }
 }
 
-// Whether -l or -w can't be met: a master that is compared is raw G.711, and no ending is known for another form.
-fn wrong_form(rt: HostRuntime, s: Settings, name: &[u8]) -> bool {
-    let form = s.form;
-    if is_raw(form) {
-        return false;
+// Whether a master can't be met, and why.
+fn wrong_master(rt: HostRuntime, s: Settings, name: &[u8]) -> Option<&'static str> {
+    if s.master.is_none() {
+        return None;
     }
-    if s.master != 0 {
-        tool_console::usage(
-            rt,
-            Tool::Unpack,
-            b"-c compares raw G.711, so -l and -w don't go with it",
-        );
-        return true;
-    }
-    if s.outfile == 0 && name.len() != 0 {
-        tool_console::usage(rt, Tool::Unpack, b"with -l or -w OUTFILE must be said");
-        return true;
-    }
-    false
-}
-
-// Whether a master can't be met.
-fn wrong_master(rt: HostRuntime, s: Settings, name: &[u8]) -> bool {
-    if s.master == 0 {
-        return false;
-    }
-    if s.outfile != 0 {
-        tool_console::say(rt, b"unpack: with -c nothing is written to OUTFILE\n");
+    if s.outfile.is_some() {
+        tool_console::tell(rt, Tool::Unpack, "with -c nothing is written to OUTFILE");
     }
     let mut space = [0u8; 4095];
-    let n = tool_console::file_name(rt, s.master, &mut space);
-    if name.len() == 0 && n == 0 {
-        tool_console::usage(
-            rt,
-            Tool::Unpack,
-            b"INFILE and MASTER can't both be standard input",
-        );
-        return true;
+    let master = tool_console::file_name(rt, s.master, &mut space);
+    if name.is_empty() && master.is_empty() {
+        return Some("INFILE and MASTER can't both be standard input");
     }
-    false
+    None
 }
 
 // "usage, then SET, .., then files, then the file's own"
 fn unpack_as(rt: HostRuntime, s: Settings) {
     let mut space = [0u8; 4095];
-    let n = tool_console::file_name(rt, s.infile, &mut space);
-    if wrong_form(rt, s, &space[..n]) {
-        return;
+    let name = tool_console::file_name(rt, s.infile, &mut space);
+    let wrong = match wrong_form(s, name) {
+        Some(why) => Some(why),
+        None => wrong_master(rt, s, name),
+    };
+    match wrong {
+        Some(why) => usage(rt, why),
+        None => run(rt, s, name),
     }
-    if wrong_master(rt, s, &space[..n]) {
-        return;
-    }
-    run(rt, s, &space[..n]);
 }
 
 fn main(rt: HostRuntime) {
-    let w = tool_console::words(rt, Tool::Unpack);
-    if tool_console::wrongly_said(rt, w) {
-        return;
+    if let Some(s) = tool_console::settings(rt, Tool::Unpack) {
+        unpack_as(rt, s);
     }
-    let s = w.said;
-    unpack_as(rt, s);
 }

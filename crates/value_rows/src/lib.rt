@@ -65,7 +65,7 @@ pub fn row_at(k: usize) -> Row
     requires { k < 12 }
     ensures { RowIs k result }
 {
-    let e = packed_row(k) as usize;
+    let e = usize::from(packed_row(k));
     Row {
         radix: e % 8,
         low: e / 32,
@@ -79,7 +79,8 @@ pub fn sample_at(mask: u8, low: usize, below: usize, d: usize) -> u8
     ensures { result ≡ sample_of mask (value_for low below d) }
 {
     if d < below {
-        return ((low - 1 - d) as u8) ^ mask;
+        ((low - 1 - d) as u8) ^ mask
+    } else {
+        128 + (((d - below) as u8) ^ mask)
     }
-    128 + (((d - below) as u8) ^ mask)
 }

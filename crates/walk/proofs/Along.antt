@@ -6,8 +6,8 @@ use mathlib.Core.List.{List, [], ◌∷◌, ◌++◌, append-nil}
 use native.Mathlib.Omega.{arith}
 use lib.ListN.{length, drop, length-append}
 use Rattle.rules.specs.declared.Refusal.{Refusal}
-use Rattle.rules.specs.declared.Ending.{Ending}
-use Rattle.rules.specs.declared.Ending.TheVariants.{Done, Refused}
+use Rattle.rules.specs.Refusals.{Ending}
+use Rattle.std.proofs.Common.{Ok, Err}
 use Rattle.rules.specs.declared.WalkAnswer.{WalkAnswer}
 use Rattle.rules.specs.Frame.{read_one}
 use Rattle.rules.specs.Walk.{Delivered, Walked, stopped, walk_from, octets_kept, samples_kept}
@@ -65,17 +65,17 @@ module _ (octets : List ℕ) (law set fuel from room : ℕ) where
           },
         )
 
-    pub along-ended : length octets ≤ at → (walked.frames ≡ done) × Counts walked (answer_of Done count (at - from) samples at 0)
-    along-ended h = along-stop Done 0 (walk-ended octets law set (fuel - count) at left h)
+    pub along-ended : length octets ≤ at → (walked.frames ≡ done) × Counts walked (answer_of (Ok tt) count (at - from) samples at 0)
+    along-ended h = along-stop (Ok tt) 0 (walk-ended octets law set (fuel - count) at left h)
 
-    pub along-last : fuel ≤ count → (walked.frames ≡ done) × Counts walked (answer_of Done count (at - from) samples at 0)
-    along-last h = along-stop Done 0 (walk-last octets law set (fuel - count) at left (omega arith))
+    pub along-last : fuel ≤ count → (walked.frames ≡ done) × Counts walked (answer_of (Ok tt) count (at - from) samples at 0)
+    along-last h = along-stop (Ok tt) 0 (walk-last octets law set (fuel - count) at left (omega arith))
 
     pub along-refused : count < fuel → at < length octets → {r : Report} → Tells (read_one (drop at octets) law set left) r
-        → (why : Refusal) → r.end ≡ Refused why
-        → (walked.frames ≡ done) × Counts walked (answer_of (Refused why) count (at - from) samples at r.bit)
+        → (why : Refusal) → r.end ≡ Err why
+        → (walked.frames ≡ done) × Counts walked (answer_of (Err why) count (at - from) samples at r.bit)
     along-refused g h {r} t why e =
-        along-stop (Refused why) r.bit
+        along-stop (Err why) r.bit
         (walk-off octets law set (fuel - count) (fuel - (count + 1)) at left (omega arith) h r.bit why (refused t e))
 
   -- with a frame buffer that serves every frame
@@ -87,7 +87,7 @@ module _ (octets : List ℕ) (law set fuel from room : ℕ) where
   -- a frame that is read there and accepted
   module _ {done : List Delivered} {at left count : ℕ} (w : Along done at left count) (g : count < fuel) (h : at < length octets)
       {r : Report}
-      (t : Tells (read_one (drop at octets) law set left) r) (e : r.end ≡ Done) where
+      (t : Tells (read_one (drop at octets) law set left) r) (e : r.end ≡ Ok tt) where
     abbrev pub passed : Delivered
     passed = record { place = at; found = (accepted t e).frame }
 

@@ -5,7 +5,7 @@ use mathlib.Core.List.{List, []}
 use native.Mathlib.Omega.{arith}
 use lib.ListN.{length, drop}
 use Rattle.rules.specs.declared.Refusal.{Refusal}
-use Rattle.rules.specs.declared.Ending.TheVariants.{Done, Refused}
+use Rattle.std.proofs.Common.{Ok, Err}
 use Rattle.rules.specs.declared.WalkAnswer.{WalkAnswer}
 use Rattle.rules.specs.Reading.{Read}
 use Rattle.rules.specs.Frame.{Found, read_one}
@@ -20,7 +20,7 @@ use Rattle.walk.proofs.Told.{Bounds, accepted, refused}
 use Rattle.walk.proofs.Along.{answer_of, walked, Along, along-start, along-refused, along-bounds, along-turn}
 
 -- a walk that is refused before any frame keeps nothing
-pub walks-none : (why : Refusal) (out : List ℕ) → Walks (stopped (Refused why) 0 0) (answer_of (Refused why) 0 0 0 0 0) out out
+pub walks-none : (why : Refusal) (out : List ℕ) → Walks (stopped (Err why) 0 0) (answer_of (Err why) 0 0 0 0 0) out out
 unfolding octets_kept samples_kept
 walks-none why out = record { end = refl; frames = refl; octets = refl; samples = refl; place = refl; bit = refl; lent = refl }
 
@@ -60,20 +60,20 @@ module _ (octets : List ℕ) (law set fuel from : ℕ) (out₀ : List ℕ) where
       reads = rw (lent_length w.kept) at s.reads
 
       -- a frame that is refused
-      pub keep-refused : (why : Refusal) → r.end ≡ Refused why
-          → Walks (walked octets law set fuel from (length out₀)) (answer_of (Refused why) count (at - from) to at r.bit) out₀ out'
+      pub keep-refused : (why : Refusal) → r.end ≡ Err why
+          → Walks (walked octets law set fuel from (length out₀)) (answer_of (Err why) count (at - from) to at r.bit) out₀ out'
       keep-refused why e =
           let same = lent_same w.kept s.lent
           (reads.lent ∙ ap (λ (x : Read Found). at_start (read_samples x) (drop to out)) (refused reads.tells e)) in
           subst (λ (x : List ℕ). Walks (walked octets law set fuel from (length out₀))
-          (answer_of (Refused why) count (at - from) to at r.bit) out₀ x) (sym same)
+          (answer_of (Err why) count (at - from) to at r.bit) out₀ x) (sym same)
           (keeps (along-refused octets law set fuel from (length out₀) w.along keep-size g h reads.tells why e))
 
       -- a frame that is accepted
-      pub keep-bounds : r.end ≡ Done → Bounds (drop at octets) (length out₀ - to) r
+      pub keep-bounds : r.end ≡ Ok tt → Bounds (drop at octets) (length out₀ - to) r
       keep-bounds e = along-bounds octets law set fuel from (length out₀) w.along g h reads.tells e
 
-      pub keep-turn : r.end ≡ Done → Keeping out' (at + r.octets) (to + r.len) (count + 1)
+      pub keep-turn : r.end ≡ Ok tt → Keeping out' (at + r.octets) (to + r.len) (count + 1)
       keep-turn e =
           let a = accepted reads.tells e in
           record {

@@ -5,7 +5,7 @@ use mathlib.Core.List.{List}
 use native.Mathlib.Omega.{arith}
 use lib.ListN.{length}
 use Rattle.rules.specs.declared.Refusal.{Refusal}
-use Rattle.rules.specs.declared.Ending.TheVariants.{Done, Refused}
+use Rattle.std.proofs.Common.{Ok, Err}
 use Rattle.rules.specs.Reading.{Read, whole, refuse}
 use Rattle.rules.specs.Frame.{Found, read_one}
 use Rattle.rules.proofs.Accepted.{read-accepts, read-uses}
@@ -19,12 +19,12 @@ pub record Accepts (found : Read Found) (r : Report) : Type 0 where
   pub is : found ≡ whole frame next
   pub tells : Tells (whole frame next) r
 
-pub accepted : {found : Read Found} {r : Report} → Tells found r → r.end ≡ Done → Accepts found r
+pub accepted : {found : Read Found} {r : Report} → Tells found r → r.end ≡ Ok tt → Accepts found r
 accepted {found = whole f i} t e = record { frame = f; next = i; is = refl; tells = t }
 accepted {found = refuse v k} t e = let d = t.end in let z : ◌≡◌ {A = ℕ} 0 1 = cc in absurd (omega arith)
 
 -- a refused one
-pub refused : {found : Read Found} {why : Refusal} {r : Report} → Tells found r → r.end ≡ Refused why → found ≡ refuse why r.bit
+pub refused : {found : Read Found} {why : Refusal} {r : Report} → Tells found r → r.end ≡ Err why → found ≡ refuse why r.bit
 refused {found = whole f i} t e = let d = t.end in let z : ◌≡◌ {A = ℕ} 0 1 = cc in absurd (omega arith)
 refused {found = refuse v k} {why = why} {r} t e =
     let d = t.end in
@@ -37,7 +37,7 @@ pub record Bounds (octets : List ℕ) (room : ℕ) (r : Report) : Type 0 where
   pub inside : r.octets ≤ length octets
   pub fits : r.len ≤ room
 
-pub read-bounds : (octets : List ℕ) (law set room : ℕ) {r : Report} → Tells (read_one octets law set room) r → r.end ≡ Done
+pub read-bounds : (octets : List ℕ) (law set room : ℕ) {r : Report} → Tells (read_one octets law set room) r → r.end ≡ Ok tt
     → Bounds octets room r
 read-bounds octets law set room t e =
     let a = accepted t e in

@@ -11,7 +11,7 @@ ghost use Rattle.reader.specs.Answers.{Fills, Measures};
 ghost use Rattle.walk.specs.Counting.{Steps, Counts};
 
 use reader::Report;
-use rules::{Ending, WalkAnswer};
+use rules::WalkAnswer;
 
 // One frame, at a place of the stream, read for what it reports: its samples go to a frame buffer that is lent, and its room is a number.
 pub fn pass(
@@ -51,28 +51,8 @@ fn step(octets: &[u8], law: u32, set: u32, at: usize, out: &mut [u8], to: usize)
     reader::read_into(&octets[at..], law, set, &mut out[to..])
 }
 
-// What was walked so far, as an answer.
-fn answer(
-    end: Ending,
-    frames: usize,
-    octets: usize,
-    samples: usize,
-    place: usize,
-    bit: usize,
-) -> WalkAnswer
-    ensures { result ≡ record { end = end; frames = frames; octets = octets; samples = samples; place = place; bit = bit } }
-{
-    WalkAnswer {
-        end,
-        frames,
-        octets,
-        samples,
-        place,
-        bit,
-    }
-}
-
-// A walk from a place on that keeps no samples, of so many frames at most; its room is only a number that falls.
+// A walk from a place on that keeps no samples, of so many frames at most; its room is only a number that falls. The places are known only
+// as the frames are read, so it goes by them, not by a range.
 pub fn walk_on(
     octets: &[u8],
     law: u32,
@@ -89,33 +69,32 @@ pub fn walk_on(
     let mut passed = 0;
     while passed < frames && place < octets.len() {
         let r = measure(octets, law, set, place, left, &mut samples);
-        let e = r.end;
-        match e {
-            Ending::Refused(why) => {
-                return answer(
-                    Ending::Refused(why),
-                    passed,
-                    place - at,
-                    room - left,
+        match r.end {
+            Err(why) => {
+                return WalkAnswer {
+                    end: Err(why),
+                    frames: passed,
+                    octets: place - at,
+                    samples: room - left,
                     place,
-                    r.bit,
-                );
+                    bit: r.bit,
+                };
             }
-            Ending::Done => {
+            Ok(()) => {
                 place += r.octets;
                 left -= r.len;
                 passed += 1;
             }
         }
     }
-    answer(Ending::Done, passed, place - at, room - left, place, 0)
-}
-
-// How a walk stops, and the refusal's bit.
-#[derive(Drop)]
-struct Stop {
-    end: Ending,
-    bit: usize,
+    WalkAnswer {
+        end: Ok(()),
+        frames: passed,
+        octets: place - at,
+        samples: room - left,
+        place,
+        bit: 0,
+    }
 }
 
 // The same walk, its samples put into the output, whose length is the room: a frame loop with a labelled exit, as document 01 has it.
@@ -134,29 +113,20 @@ pub fn keep_on(
     let mut used = 0;
     let mut to = 0;
     let mut count = 0;
-    let stop = 'frames: loop {
+    // How it stops, and the refusal's bit
+    let (end, bit) = 'frames: loop {
         if frames <= count {
-            break 'frames Stop {
-                end: Ending::Done,
-                bit: 0,
-            };
+            break 'frames (Ok(()), 0);
         }
         if octets.len() <= place {
-            break 'frames Stop {
-                end: Ending::Done,
-                bit: 0,
-            };
+            break 'frames (Ok(()), 0);
         }
         let r = step(octets, law, set, place, out, to);
-        let e = r.end;
-        match e {
-            Ending::Refused(why) => {
-                break 'frames Stop {
-                    end: Ending::Refused(why),
-                    bit: r.bit,
-                };
+        match r.end {
+            Err(why) => {
+                break 'frames (Err(why), r.bit);
             }
-            Ending::Done => {
+            Ok(()) => {
                 place += r.octets;
                 used += r.octets;
                 to += r.len;
@@ -164,14 +134,13 @@ pub fn keep_on(
             }
         }
     };
-    let end = stop.end;
     WalkAnswer {
         end,
         frames: count,
         octets: used,
         samples: to,
         place,
-        bit: stop.bit,
+        bit,
     }
 }
 
@@ -181,7 +150,14 @@ pub fn walk(octets: &[u8], law: u32, set: u32, out: &mut [u8]) -> WalkAnswer
     ensures { Walk octets.now law set out.old out.new result }
 {
     match rules::guard_stream(law, set, octets.len()) {
-        Ending::Refused(why) => answer(Ending::Refused(why), 0, 0, 0, 0, 0),
-        Ending::Done => keep_on(octets, law, set, 0, octets.len(), out),
+        Err(why) => WalkAnswer {
+            end: Err(why),
+            frames: 0,
+            octets: 0,
+            samples: 0,
+            place: 0,
+            bit: 0,
+        },
+        Ok(()) => keep_on(octets, law, set, 0, octets.len(), out),
     }
 }

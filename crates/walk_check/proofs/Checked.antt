@@ -6,8 +6,8 @@ use mathlib.Core.Path.{◌≡◌, refl, sym, ◌∙◌}
 use mathlib.Core.List.{List}
 use lib.ListN.{length}
 use Rattle.rules.specs.declared.Refusal.{Refusal}
-use Rattle.rules.specs.declared.Ending.{Ending}
-use Rattle.rules.specs.declared.Ending.TheVariants.{Done, Refused}
+use Rattle.rules.specs.Refusals.{Ending}
+use Rattle.std.proofs.Common.{Ok, Err}
 use Rattle.rules.specs.Refusals.{verdict}
 use Rattle.rules.specs.declared.WalkAnswer.{WalkAnswer}
 use Rattle.rules.specs.Walk.{Walked, stopped, walk_from, walk_asks, walk_all, octets_kept, samples_kept}
@@ -17,12 +17,12 @@ use Rattle.walk.specs.Counting.{Counts}
 use Rattle.walk_check.specs.Check.{room_for, check_of}
 
 module _ (octets : List ℕ) (law set : ℕ) where
-  pub check-refused : {why : Refusal} → verdict (walk_asks law set (length octets)) ≡ Refused why → check_of octets law set ≡ stopped (Refused why) 0 0
+  pub check-refused : {why : Refusal} → verdict (walk_asks law set (length octets)) ≡ Err why → check_of octets law set ≡ stopped (Err why) 0 0
   unfolding check_of
   check-refused e = walk_refused octets law set (room_for octets) e
 
   -- as many frames as there are octets
-  pub check-allowed : verdict (walk_asks law set (length octets)) ≡ Done
+  pub check-allowed : verdict (walk_asks law set (length octets)) ≡ Ok tt
       → check_of octets law set ≡ walk_from (length octets) octets law set 0 (320 * length octets)
   unfolding check_of
   check-allowed e =
@@ -35,15 +35,15 @@ module _ (octets : List ℕ) (law set : ℕ) where
   check-walks room h = go (verdict (walk_asks law set (length octets))) refl
     where
       go : (e : Ending) → verdict (walk_asks law set (length octets)) ≡ e → walk_all octets law set room ≡ walk_all octets law set (room_for octets)
-      go Done e =
+      go (Ok tt) e =
           walk-allowed octets law set room e
           ∙ walk-roomy octets law set (suc (length octets)) 0 room (room_for octets) (omega arith) (omega arith)
           ∙ sym (walk-allowed octets law set (room_for octets) e)
-      go (Refused why) e = walk_refused octets law set room e ∙ sym (walk_refused octets law set (room_for octets) e)
+      go (Err why) e = walk_refused octets law set room e ∙ sym (walk_refused octets law set (room_for octets) e)
 
 -- nothing is counted of a stream that is refused before any frame
 pub counts-none : (why : Refusal)
-    → Counts (stopped (Refused why) 0 0) (record { end = Refused why; frames = 0; octets = 0; samples = 0; place = 0; bit = 0 })
+    → Counts (stopped (Err why) 0 0) (record { end = Err why; frames = 0; octets = 0; samples = 0; place = 0; bit = 0 })
 unfolding octets_kept samples_kept
 counts-none why = record { end = refl; frames = refl; octets = refl; samples = refl; place = refl; bit = refl }
 

@@ -4,7 +4,7 @@
 ghost use Rattle.walk.specs.Counting.{Counts};
 ghost use Rattle.walk_check.specs.Check.{check_of};
 
-use rules::{Ending, WalkAnswer};
+use rules::WalkAnswer;
 
 // No frame has more samples, and each has an octet: so much room for each octet is never short.
 const MOST_SAMPLES: usize = 320;
@@ -14,15 +14,15 @@ pub fn check(octets: &[u8], law: u32, set: u32) -> WalkAnswer
     ensures { Counts (check_of octets.now law set) result }
 {
     match rules::guard_stream(law, set, octets.len()) {
-        Ending::Refused(why) => WalkAnswer {
-            end: Ending::Refused(why),
+        Err(why) => WalkAnswer {
+            end: Err(why),
             frames: 0,
             octets: 0,
             samples: 0,
             place: 0,
             bit: 0,
         },
-        Ending::Done => walk::walk_on(
+        Ok(()) => walk::walk_on(
             octets,
             law,
             set,

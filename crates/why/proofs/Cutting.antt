@@ -6,12 +6,12 @@ use native.Mathlib.Omega.{arith}
 use native.Mathlib.Nat.{mul_assoc}
 use mathlib.Core.Path.{◌≡◌, refl, sym, ap, subst, ◌∙◌}
 use mathlib.Core.List.{List, [], ◌∷◌, ◌++◌, append_assoc, append-nil}
-use mathlib.Core.Bool.{true, false}
+use mathlib.Core.Bool.{true}
 use lib.ListN.{length, take, drop, length-append, length-drop}
 use lib.Seq.{drop-drop, length-take-le}
 use borrow.Author.Tests.{eqb-true}
-use Rattle.rules.specs.declared.Ending.{Ending}
-use Rattle.rules.specs.declared.Ending.TheVariants.{Done, Refused}
+use Rattle.rules.specs.Refusals.{Ending}
+use Rattle.std.proofs.Common.{Ok, Err}
 use Rattle.rules.specs.Tools.{is_length}
 use Rattle.rules.proofs.Tests.{by_length}
 use Rattle.tool_packing.specs.Cuts.{next_length, cuts, sound_in}
@@ -19,7 +19,10 @@ use Rattle.tool_packing.specs.SoundParts.{part_size, goes_on}
 use Rattle.tool_packing.proofs.Lengths.{next-none, next_fits}
 use Rattle.tool_packing.proofs.Cuts.{cuts-none, cuts-next, cuts-parts}
 use Rattle.tool_packing.proofs.Kept.{sound_in-append}
-use Rattle.why.specs.Cut.{FrameOf, PartsCut, CutTo, FrameIn, PartsIn}
+use Rattle.why.specs.Cut.{FrameOf, PartsCut, CutTo, FrameIn, PartsIn, Further}
+use Rattle.std.specs.Prelude.{Result, IfOk}
+use Rattle.why.specs.declared.Run.{Run}
+use Rattle.why.specs.declared.Amiss.{Amiss}
 
 -- one frame by itself
 sound-one : (s : List ℕ) → sound_in (s ∷ []) ≡ s
@@ -110,9 +113,11 @@ module _ (n frames samples : ℕ) (sound : List ℕ) (i : is_length n ≡ true) 
             ∙ length-append (sound_in (cuts n sound)) (sound_in (cuts n part)) ∙ omega (arith, p.stands, end.1);
       }
 
--- no more parts
-pub none_more : {A : Type 0} → false ≡ true → A
-none_more e = let z : ◌≡◌ {A = ℕ} 0 1 = cc in absurd (omega arith)
+-- by at most so many octets, or more
+pub further : (n size most : ℕ) (run : Run) (end : Result Run Amiss) → size ≤ most → IfOk end (λ r. Further n size run r)
+    → IfOk end (λ r. Further n most run r)
+further n size most run (Ok r) h f = record { frames = omega (arith, f.frames, h); samples = omega (arith, f.samples, h); whole = f.whole }
+further n size most run (Err why) h f = tt
 
 -- In the code's own expressions: k counts the frames of the whole sound, `to` is where the next frame ends
 pub begun : (n : ℕ) → PartsIn n 0 0
@@ -149,5 +154,5 @@ module _ (n frames samples : ℕ) (part : List ℕ) (from k : ℕ) (p : PartsIn 
       record { sound = b.sound ++ part; parts = subst (λ (j : ℕ). PartsCut n j (samples + from) (b.sound ++ part)) m q }
     where
       whole_part : (end : Ending) (count : ℕ) → goes_on end count ≡ true → count ≡ part_size
-      whole_part Done count h = eqb-true count part_size h
-      whole_part (Refused w) count h = let z : ◌≡◌ {A = ℕ} 0 1 = cc in absurd (omega arith)
+      whole_part (Ok _) count h = eqb-true count part_size h
+      whole_part (Err w) count h = let z : ◌≡◌ {A = ℕ} 0 1 = cc in absurd (omega arith)

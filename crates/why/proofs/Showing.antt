@@ -1,15 +1,15 @@
 -- What is written of a frame, in the code's steps.
 use Prim.Native.Nat.{ℕ, ◌+◌, ◌≤◌}
 use native.Mathlib.Omega.{arith}
-use mathlib.Core.Path.{◌≡◌, sym, ◌∙◌}
+use mathlib.Core.Path.{◌≡◌, sym}
 use mathlib.Core.List.{List}
 use lib.ListN.{length, take}
 use Rattle.rules.specs.Listing.{field, line_end, frame_word, at_word}
 use Rattle.text_lines.specs.Puts.{Puts}
 use Rattle.text_lines.proofs.Putting.{puts_then}
 use Rattle.reasons.specs.declared.Reasons.{Reasons}
-use Rattle.reasons.specs.declared.Why.{Why}
-use Rattle.reasons.specs.declared.Why.TheVariants.{Told}
+use Rattle.std.specs.Prelude.{Result, Ok}
+use Rattle.rules.specs.declared.Refusal.{Refusal}
 use Rattle.reasons.specs.Why.{why_one}
 use Rattle.why.specs.Shows.{head_line, frame_text, Shows}
 
@@ -19,7 +19,7 @@ pub head-put : (k place : ℕ) {o o₁ o₂ o₃ : List ℕ} {a b c : ℕ}
 unfolding head_line
 head-put k place p q r l m = (puts_then p (puts_then q r), omega (arith, r.place))
 
-pub shown : (frame : List ℕ) (k place law set : ℕ) {n : ℕ} {why : Why} (r : Reasons) {text text' : List ℕ}
-    → why ≡ why_one (length frame) frame law set → why ≡ Told r → Puts text 0 (frame_text k place r) text' n
+pub shown : (frame : List ℕ) (k place law set : ℕ) {n : ℕ} (r : Reasons) {text text' : List ℕ}
+    → ◌≡◌ {A = Result Reasons Refusal} (Ok r) (why_one (length frame) frame law set) → Puts text 0 (frame_text k place r) text' n
     → Shows frame k place law set (take n text')
-shown frame k place law set r e f p = record { reasons = r; why = sym e ∙ f; says = p.says }
+shown frame k place law set r e p = record { reasons = r; why = sym e; says = p.says }

@@ -1,8 +1,9 @@
 -- The frames that `pack` cuts a sound into, each with its number and its place, and how far a run that cuts part after part has come.
-use Rattle.std.specs.Prelude.{ℕ, ◌*◌, ◌≡◌, List, ◌∷◌, ◌++◌, true, length, drop}
+use Rattle.std.specs.Prelude.{ℕ, ◌+◌, ◌*◌, ◌≤◌, ◌≡◌, List, ◌∷◌, ◌++◌, true, length, drop}
 use Rattle.rules.specs.Tools.{is_length}
 use Rattle.tool_packing.specs.Cuts.{cuts, sound_in}
 use Rattle.tool_packing.specs.SoundParts.{part_size}
+use Rattle.why.specs.declared.Run.{Run}
 use Rattle.why.specs.Shows.{Shows}
 
 -- frame k of the frames that `pack` cuts a sound into; it stands at `place` of the sound
@@ -35,6 +36,12 @@ pub record CutParts (n frames samples : ℕ) : Type 0 where
 
 abbrev pub PartsIn : ℕ → ℕ → ℕ → Type 0
 PartsIn n frames samples = is_length n ≡ true → CutParts n frames samples
+
+-- a run that came further by at most so many octets: where more may come, by a whole part
+pub record Further (n size : ℕ) (run r : Run) : Type 0 where
+  pub frames : r.frames ≤ run.frames + size
+  pub samples : r.samples ≤ run.samples + size
+  pub whole : r.more ≡ true → PartsIn n r.frames r.samples
 
 -- what is written: the text of such a frame
 pub record ShowsFrame (n : ℕ) (frame : List ℕ) (k place law set : ℕ) (text : List ℕ) : Type 0 where

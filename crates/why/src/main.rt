@@ -2,24 +2,22 @@
 // crates `reasoning` and `reasons`: here the sound is read in parts of whole frames, and each frame's lines are written as it comes.
 #![tactic(auto)]
 
-ghost use Rattle.std.specs.Prelude.{◌+◌, ◌≤◌, true, ◌≡◌, length};
+ghost use Rattle.std.specs.Prelude.{◌+◌, ◌≤◌, true, ◌≡◌, length, IfOk};
 ghost use Rattle.text_lines.specs.Puts.{Puts};
 ghost use Rattle.tool_packing.specs.SoundParts.{part_size};
-ghost use Rattle.why.specs.Cut.{FrameIn, ShowsFrame, PartsIn};
+ghost use Rattle.why.specs.Cut.{FrameIn, ShowsFrame, PartsIn, Further};
 ghost use Rattle.why.specs.Shows.{head_line, frame_text, most_sound};
 
-use reasons::{Reasons, Why};
-use rules::Ending;
+use reasons::Reasons;
+use rules::{Ending, Numbered, Refusal};
 use std::io;
 use std::io::Print;
-use tool_console::InFile;
-use tool_words::filenames::Law;
-use tool_words::options::{Settings, Tool};
+use tool_console::{InFile, no_error};
+use tool_words::options::Tool;
 
 // What can fail on the way: the sound can't be read, or the lines can't be written; and why.
 #[derive(Clone, Copy)]
 enum Amiss {
-    Nothing,
     Unread(io::Error),
     Unwritten(io::Error),
 }
@@ -30,18 +28,17 @@ struct Job {
     law: u32,
     set: u32,
     length: u32,
-    only: bool,
-    frame: u32,
+    frame: Option<u32>,
 }
 
-// How the sound ended so far, its frames and the samples in them, whether more sound may come, and what failed.
+// How the sound ended so far, its frames and the samples in them, and whether more sound may come.
+// `more` is a flag: it is no failure, and the definitions state facts under it, such as `PartsIn`.
 #[derive(Clone, Copy)]
 struct Run {
     end: Ending,
     frames: usize,
     samples: usize,
     more: bool,
-    wrong: Amiss,
 }
 
 // A frame's heading: `frame=K at=P`.
@@ -79,16 +76,13 @@ fn write_frame(
     Print::write_all(&rt.stdout(), text)
 }
 
-// The system's number where no call failed.
-const NO_ERROR: i32 = 0;
-
 // The reasons of frame k, which stands at `place` of the sound.
 fn show_frame(rt: HostRuntime, frame: &[u8], k: usize, place: usize, job: Job) -> io::Result<()>
     requires { FrameIn job.length k place frame.now }
 {
     match reasoning::why_samples(frame, job.law, job.set) {
-        Why::Refused(_) => Err(io::Error::from_raw_os_error(NO_ERROR)),
-        Why::Told(r) => {
+        Err(_) => Err(no_error()),
+        Ok(r) => {
             let mut text = [0u8; 640];
             let n = put_frame(k, place, r, &mut text);
             write_frame(rt, frame, k, place, job, &text[..n])
@@ -100,22 +94,18 @@ fn show_frame(rt: HostRuntime, frame: &[u8], k: usize, place: usize, job: Job) -
 fn show_wanted(rt: HostRuntime, frame: &[u8], k: usize, place: usize, job: Job) -> io::Result<()>
     requires { FrameIn job.length k place frame.now }
 {
-    if job.only {
-        if k != job.frame as usize {
-            return Ok(());
-        }
-        return show_frame(rt, frame, k, place, job);
+    match job.frame {
+        Some(only) if k != only as usize => Ok(()),
+        _ => show_frame(rt, frame, k, place, job),
     }
-    show_frame(rt, frame, k, place, job)
 }
 
 // Frame after frame of a part, until no length fits or a write fails.
-fn part_frames(rt: HostRuntime, part: &[u8], run: Run, job: Job) -> Run
+// No `for`: how long a frame is, is known when it is cut.
+fn part_frames(rt: HostRuntime, part: &[u8], run: Run, job: Job) -> Result<Run, Amiss>
     requires part_len_bound { (length part.now ≤ part_size) × (run.frames ≤ most_sound) × (run.samples ≤ most_sound) }
     requires parts_in { PartsIn job.length run.frames run.samples }
-    ensures frames { result.frames ≤ run.frames + length part.now }
-    ensures samples { result.samples ≤ run.samples + length part.now }
-    ensures whole { result.more ≡ true → PartsIn job.length result.frames result.samples }
+    ensures { IfOk result (λ r. Further job.length (length part.now) run r) }
 {
     let mut from = 0;
     let mut k = run.frames;
@@ -125,23 +115,16 @@ fn part_frames(rt: HostRuntime, part: &[u8], run: Run, job: Job) -> Run
         let place = run.samples + from;
         if len == 0 {
             let end = tool_packing::cutting::last_end(left);
-            return Run {
+            return Ok(Run {
                 end,
                 frames: k,
                 samples: place,
                 more: tool_packing::cutting::may_go_on(end, part.len()),
-                wrong: Amiss::Nothing,
-            };
+            });
         }
         let to = from + len;
         if let Err(why) = show_wanted(rt, &part[from..to], k, place, job) {
-            return Run {
-                end: Ending::Done,
-                frames: k,
-                samples: place,
-                more: false,
-                wrong: Amiss::Unwritten(why),
-            };
+            return Err(Amiss::Unwritten(why));
         }
         from = to;
         k += 1;
@@ -149,157 +132,117 @@ fn part_frames(rt: HostRuntime, part: &[u8], run: Run, job: Job) -> Run
 }
 
 // One part read and shown.
-fn next_part(rt: HostRuntime, fd: &InFile, run: Run, job: Job, part: &mut [u8]) -> Run
+fn next_part(
+    rt: HostRuntime,
+    fd: &InFile,
+    run: Run,
+    job: Job,
+    part: &mut [u8],
+) -> Result<Run, Amiss>
     requires part_len { (length part.old ≡ part_size) × (run.frames ≤ most_sound) × (run.samples ≤ most_sound) }
     requires parts_in { PartsIn job.length run.frames run.samples }
-    ensures frames { result.frames ≤ run.frames + part_size }
-    ensures samples { result.samples ≤ run.samples + part_size }
-    ensures whole { result.more ≡ true → PartsIn job.length result.frames result.samples }
+    ensures { IfOk result (λ r. Further job.length part_size run r) }
 {
-    let got = tool_console::read_part(fd, part);
-    if let Some(why) = got.failed {
-        return Run {
-            end: Ending::Done,
-            frames: run.frames,
-            samples: run.samples,
-            more: false,
-            wrong: Amiss::Unread(why),
-        };
+    match tool_console::read_part(fd, part) {
+        Ok(count) => part_frames(rt, &part[..count], run, job),
+        Err(why) => Err(Amiss::Unread(why)),
     }
-    let count = got.count;
-    part_frames(rt, &part[..count], run, job)
 }
 
-// Part after part, until the sound ends, is refused, or can't be read or shown. No file has as many parts as are counted here.
-fn all_parts(rt: HostRuntime, fd: &InFile, job: Job, part: &mut [u8]) -> Run
+// No file has as many parts as these.
+const PARTS: u64 = 160000000000000;
+
+// Part after part, until the sound ends, is refused, or can't be read or shown.
+fn all_parts(rt: HostRuntime, fd: &InFile, job: Job, part: &mut [u8]) -> Result<Run, Amiss>
     requires { length part.old ≡ part_size }
 {
     let mut run = Run {
-        end: Ending::Done,
+        end: Ok(()),
         frames: 0,
         samples: 0,
         more: true,
-        wrong: Amiss::Nothing,
     };
-    let mut i = 0usize;
-    while i < 160000000000000 && run.more {
-        let next = next_part(rt, fd, run, job, part);
-        run = next;
-        i += 1;
-    }
-    run
-}
-
-// The number that refuses the settings: LAW, SET, and LENGTH of the frame length; 0 where none does.
-fn settings_number(job: Job) -> u32 {
-    match reasoning::why_samples(b"", job.law, job.set) {
-        Why::Refused(why) => rules::refusal_number(why),
-        Why::Told(_) => {
-            if rules::is_length(job.length as usize) {
-                return 0;
-            }
-            10
+    'parts: for _ in 0..PARTS {
+        if !run.more {
+            break;
+        }
+        match next_part(rt, fd, run, job, part) {
+            Ok(next) => run = next,
+            Err(amiss) => return Err(amiss),
         }
     }
+    Ok(run)
 }
 
-// Why the settings are refused.
-fn explain_settings(rt: HostRuntime, number: u32) {
-    if number == 11 {
-        tool_console::say_number(
-            rt,
-            b"why: the tool set is an odd number of at most ",
-            rules::ALL_TOOLS as usize,
-        );
-        tool_console::say(rt, b"\n");
-    }
-    if number == 10 {
-        tool_console::say(rt, b"why: the frame length is 40, 80, 160, 240 or 320\n");
+// LAW, SET, and LENGTH of the frame length.
+fn judge(job: Job) -> Ending {
+    let _ = reasoning::why_samples(b"", job.law, job.set)?;
+    if rules::is_length(job.length as usize) {
+        Ok(())
+    } else {
+        Err(Refusal::Length)
     }
 }
 
-// A frame that was asked for and that the sound does not have.
-fn is_missing(job: Job, frames: usize) -> bool {
-    if job.only {
-        return frames <= job.frame as usize;
-    }
-    false
-}
-
-// What was done, or why it was not, of a sound that was read and shown.
-fn finish_well(rt: HostRuntime, run: Run, job: Job) {
-    let end = run.end;
-    let number = rules::number_of(end);
+// What was done, or why it was not, of a sound that was read and shown. A frame may be asked for that the sound does not have.
+fn finish(rt: HostRuntime, run: Run, job: Job) {
+    let number = rules::number_of(run.end);
     if number != 0 {
-        tool_console::say(rt, b"why: no length fits the octets at the end\n");
+        tool_console::tell(rt, Tool::Why, "no length fits the octets at the end");
         tool_console::refused(rt, Tool::Why, number, run.samples, 0, 0);
         return;
     }
-    if is_missing(job, run.frames) {
-        tool_console::say_number(
-            rt,
-            b"why: the sound has no such frame; its frames are ",
-            run.frames,
-        );
-        tool_console::say(rt, b"\n");
-        tool_console::stop(rt, Tool::Why, 64, run.samples, 0, 0);
-        return;
-    }
-    tool_console::stop(rt, Tool::Why, 0, run.samples, 0, 0);
+    let number = match job.frame {
+        Some(only) if run.frames <= only as usize => {
+            let frames = run.frames;
+            tool_console::tell(
+                rt,
+                Tool::Why,
+                format_args!("the sound has no such frame; its frames are {frames}"),
+            );
+            64
+        }
+        _ => 0,
+    };
+    tool_console::stop(rt, Tool::Why, number, run.samples, 0, 0);
 }
 
-fn finish(rt: HostRuntime, run: Run, job: Job, in_name: &[u8]) {
-    let wrong = run.wrong;
-    match wrong {
-        Amiss::Nothing => finish_well(rt, run, job),
-        Amiss::Unread(why) => tool_console::failed(rt, Tool::Why, in_name, b"standard input", why),
-        Amiss::Unwritten(why) => tool_console::failed(rt, Tool::Why, b"", b"standard output", why),
+// The parts of a sound that was opened.
+fn why_sound(rt: HostRuntime, fd: &InFile, job: Job, name: &[u8]) {
+    let mut part = [0u8; 61440];
+    match all_parts(rt, fd, job, &mut part) {
+        Ok(run) => finish(rt, run, job),
+        Err(Amiss::Unread(why)) => tool_console::unread(rt, Tool::Why, name, why),
+        Err(Amiss::Unwritten(why)) => tool_console::unwritten(rt, Tool::Why, b"", why),
     }
 }
 
 // The settings are judged before any file is opened.
-fn why_file(rt: HostRuntime, job: Job, in_name: &[u8]) {
-    let number = settings_number(job);
-    if number != 0 {
-        explain_settings(rt, number);
-        tool_console::refused(rt, Tool::Why, number, 0, 0, 0);
+fn why_file(rt: HostRuntime, job: Job, name: &[u8]) {
+    if let Err(why) = judge(job) {
+        tool_console::refuse_settings(rt, Tool::Why, why.number());
         return;
     }
-    match tool_console::open_in(rt, in_name) {
-        Ok(fd) => {
-            let mut part = [0u8; 61440];
-            let run = all_parts(rt, &fd, job, &mut part);
-            finish(rt, run, job, in_name);
-        }
-        Err(why) => tool_console::failed(rt, Tool::Why, in_name, b"standard input", why),
+    match tool_console::open_in(rt, name) {
+        Ok(fd) => why_sound(rt, &fd, job, name),
+        Err(why) => tool_console::unread(rt, Tool::Why, name, why),
     }
 }
 
 // A law that no option tells is told by the ending of what is read.
-fn why_with(rt: HostRuntime, s: Settings, space: &mut [u8]) {
-    let n = tool_console::file_name(rt, s.infile, space);
-    let in_name: &[u8] = &space[..n];
-    match tool_words::options::law_of(s, in_name) {
-        Law::Unknown => tool_console::usage(rt, Tool::Why, b"the law is not known: say -u or -a"),
-        Law::Known(law) => {
-            let job = Job {
-                law,
-                set: s.set,
-                length: s.length,
-                only: s.only,
-                frame: s.frame,
-            };
-            why_file(rt, job, in_name);
-        }
-    }
-}
-
 fn main(rt: HostRuntime) {
-    let w = tool_console::words(rt, Tool::Why);
-    if tool_console::wrongly_said(rt, w) {
+    let Some(s) = tool_console::settings(rt, Tool::Why) else {
         return;
+    };
+    let mut space = [0u8; 4095];
+    let name = tool_console::file_name(rt, s.infile, &mut space);
+    if let Some(law) = tool_console::law_of(rt, s, name) {
+        let job = Job {
+            law,
+            set: s.set,
+            length: s.length,
+            frame: s.frame,
+        };
+        why_file(rt, job, name);
     }
-    let s = w.said;
-    let mut in_name = [0u8; 4095];
-    why_with(rt, s, &mut in_name);
 }

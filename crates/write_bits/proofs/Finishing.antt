@@ -9,7 +9,7 @@ use lib.Seq.{take-suc-set, drop-set-lt, length-take-le}
 use Rattle.rules.specs.Bits.{low_bits, bits_of, octets_for, fill_for, pack}
 use Rattle.rules.proofs.Octets.{length-low_bits, length-bits_of, bits_of-append, Below, below-append, below_all}
 use Rattle.rules.proofs.Octets.{below-take, bits_of-below, low_bits-below, pack-below, bits_of-pack, told-by-bits}
-use Rattle.write_bits.specs.declared.Pen.{Pen}
+use Rattle.write_bits.specs.declared.pen.Pen.{Pen}
 use Rattle.write_bits.specs.Puts.{pen_bits, Able, Puts, Flushes, Packed}
 use Rattle.rules.proofs.Words.{low_bits-split, low_bits-mod}
 use Rattle.rules.proofs.Lent.{drop-further}

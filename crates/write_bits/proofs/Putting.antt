@@ -5,12 +5,11 @@ use mathlib.Core.List.{List, [], ◌++◌, append-nil, append_assoc}
 use native.Mathlib.Omega.{arith}
 use lib.ListN.{length, take, drop, set, length-append}
 use lib.Seq.{sets-eq, take_at, drop_at, length-take-le}
-use lib.Pow.{pow-add, pow_mono, shl_exact}
-use lib.Arith.{digits_lt}
+use lib.Pow.{shl_exact}
 use Rattle.rules.specs.Bits.{low_bits}
 use Rattle.rules.proofs.Lent.{drop-further}
 use Rattle.rules.proofs.Octets.{length-low_bits, bits_of-append}
-use Rattle.write_bits.specs.declared.Pen.{Pen}
+use Rattle.write_bits.specs.declared.pen.Pen.{Pen}
 use Rattle.write_bits.specs.Puts.{pen_bits, Able, Puts, Stores}
 use Rattle.rules.proofs.Words.{low_bits-split, low_bits-mod, low_bits-join}
 use Rattle.write_bits.proofs.Words.{octets_of, bits_of-word}
@@ -36,14 +35,7 @@ word_after p n v = (p.word * 2 ^ n) % 2 ^ 64 + v
 
 module _ (o : List ℕ) (p : Pen) (n v : ℕ) (able : Able o p n) (few : n ≤ 32) (fits : v < 2 ^ n) where
   pub word-is : word_after p n v ≡ p.word * 2 ^ n + v
-  word-is = ap (λ (w : ℕ). w + v) (shl_exact 32 n 64 able.word (omega arith))
-
-  pub word_fits : word_after p n v < 2 ^ 64
-  word_fits =
-      let a : p.word * 2 ^ n + v < 2 ^ 32 * 2 ^ n = digits_lt able.word fits in
-      let b : 2 ^ (32 + n) ≤ 2 ^ 64 = pow_mono {j = 64} (omega arith) in
-      let e : 2 ^ (32 + n) ≡ 2 ^ 32 * 2 ^ n = pow-add 2 32 n in
-      rw word-is (omega arith)
+  word-is = ap (λ (w : ℕ). w + v) (shl_exact 32 n 64 p.small (omega arith))
 
   -- the bits that are then held
   bits_are : low_bits (p.held + n) (word_after p n v) ≡ low_bits p.held p.word ++ low_bits n v
@@ -54,36 +46,34 @@ module _ (o : List ℕ) (p : Pen) (n v : ℕ) (able : Able o p n) (few : n ≤ 3
       let e : 32 - k + k ≡ 32 = omega arith in
       rw e at (low_bits-mod k (32 - k) (word_after p n v))
 
-  pub put-held : p.held + n < 32
-      → Puts o p (low_bits n v) o (record { word = word_after p n v % 2 ^ 32; held = p.held + n; at = p.at })
-  unfolding pen_bits
-  put-held h =
-      record {
-        says = rw (low-bits (p.held + n) h, bits_are, append_assoc);
-        rest = refl;
-        place = rw length-low_bits (omega arith);
-        grows = omega arith;
-        held = h;
-        word = omega arith;
-      }
+  -- the pen after it
+  module _ {p' : Pen} (word : p'.word ≡ word_after p n v % 2 ^ 32) where
+    pub put-held : p'.held ≡ p.held + n → p'.at ≡ p.at → Puts o p (low_bits n v) o p'
+    unfolding pen_bits
+    put-held e a =
+        let h : p.held + n < 32 = omega (arith, p'.few) in
+        record {
+          says = rw (word, e, a, low-bits (p.held + n) h, bits_are, append_assoc);
+          rest = refl;
+          place = rw length-low_bits (omega arith);
+          grows = omega arith;
+        }
 
-  pub put-stored : (o' : List ℕ) → 32 ≤ p.held + n → Stores o p.at (word_after p n v / 2 ^ (p.held + n - 32)) o'
-      → Puts o p (low_bits n v) o' (record { word = word_after p n v % 2 ^ 32; held = p.held + n - 32; at = p.at + 4 })
-  unfolding pen_bits
-  put-stored o' h s =
-      let left = p.held + n - 32 in
-      let e : 32 + left ≡ p.held + n = omega arith in
-      let cut : low_bits 32 (word_after p n v / 2 ^ left) ++ low_bits left (word_after p n v) ≡ low_bits p.held p.word ++ low_bits n v =
-      sym (low_bits-split 32 left (word_after p n v)) ∙ ap (λ (k : ℕ). low_bits k (word_after p n v)) e ∙ bits_are in
-      let few-left : left < 32 = omega (arith, able.held) in
-      record {
-        says = rw (s.says, low-bits left few-left, append_assoc, cut, append_assoc);
-        rest = s.rest;
-        place = rw length-low_bits (omega arith);
-        grows = omega arith;
-        held = few-left;
-        word = omega arith;
-      }
+    pub put-stored : (o' : List ℕ) → 32 ≤ p.held + n → p'.held ≡ p.held + n - 32 → p'.at ≡ p.at + 4
+        → Stores o p.at (word_after p n v / 2 ^ (p.held + n - 32)) o' → Puts o p (low_bits n v) o' p'
+    unfolding pen_bits
+    put-stored o' h e a s =
+        let left = p.held + n - 32 in
+        let all : 32 + left ≡ p.held + n = omega arith in
+        let cut : low_bits 32 (word_after p n v / 2 ^ left) ++ low_bits left (word_after p n v) ≡ low_bits p.held p.word ++ low_bits n v =
+        sym (low_bits-split 32 left (word_after p n v)) ∙ ap (λ (k : ℕ). low_bits k (word_after p n v)) all ∙ bits_are in
+        let few-left : left < 32 = omega (arith, p.few) in
+        record {
+          says = rw (word, e, a, s.says, low-bits left few-left, append_assoc, cut, append_assoc);
+          rest = rw a s.rest;
+          place = rw length-low_bits (omega arith);
+          grows = omega arith;
+        }
 
 -- one putting after another
 pub puts_then : {o o' o'' : List ℕ} {p p' p'' : Pen} {a b : List ℕ} → Puts o p a o' p' → Puts o' p' b o'' p'' → Puts o p (a ++ b) o'' p''
@@ -93,14 +83,11 @@ puts_then {o} {o'} {o''} {p} {p'} {p''} {a} {b} f g =
       rest = g.rest ∙ drop-further o' o p'.at p''.at g.grows f.rest;
       place = rw length-append (omega (arith, f.place, g.place));
       grows = omega (arith, f.grows, g.grows);
-      held = g.held;
-      word = g.word;
     }
 
 -- nothing put
-pub puts_none : {o : List ℕ} {p : Pen} → p.held < 32 → p.word < 2 ^ 32 → Puts o p [] o p
-puts_none {o} {p} h w =
-    record { says = sym (append-nil (pen_bits o p)); rest = refl; place = omega arith; grows = omega arith; held = h; word = w }
+pub puts_none : (o : List ℕ) (p : Pen) → Puts o p [] o p
+puts_none o p = record { says = sym (append-nil (pen_bits o p)); rest = refl; place = omega arith; grows = omega arith }
 
 -- what is put, said otherwise
 pub puts-as : {o o' : List ℕ} {p p' : Pen} {a b : List ℕ} → Puts o p a o' p' → a ≡ b → Puts o p b o' p'
@@ -108,9 +95,9 @@ puts-as {o} {o'} {p} {p'} f e = rw e at f
 
 -- room for less, and room for what follows
 pub able-as : {o : List ℕ} {p : Pen} {m k : ℕ} → Able o p m → k ≤ m → Able o p k
-able-as a h = record { held = a.held; word = a.word; room = omega (arith, a.room) }
+able-as a h = record { room = omega (arith, a.room) }
 
 pub able-then : {o o' bits : List ℕ} {p p' : Pen} {m : ℕ} (k : ℕ) → Able o p m → Puts o p bits o' p' → length o' ≡ length o
     → length bits + k ≤ m → Able o' p' k
 able-then k a put size h =
-    record { held = put.held; word = put.word; room = omega (arith, a.room, put.place) }
+    record { room = omega (arith, a.room, put.place) }

@@ -3,13 +3,14 @@ use Prim.Native.Nat.{ℕ, suc, ◌+◌, ◌*◌, ◌-◌, ◌^◌, ◌/◌, ◌%
 use mathlib.Core.Path.{◌≡◌, refl, ap, ◌∙◌}
 use mathlib.Core.List.{List, [], ◌∷◌, ◌++◌, append_assoc}
 use native.Mathlib.Omega.{arith}
-use native.Mathlib.Nat.{zero-add, mod-lt, pow-suc, lt_of_lt_of_le}
+use native.Mathlib.Nat.{zero-add, mod-lt, pow-suc}
 use lib.Dec.{lit<}
-use lib.ListN.{length, get_or, take, replicate, length-append, length-replicate, replicate-append-replicate}
+use lib.ListN.{length, get_or, take, replicate, length-append, replicate-append-replicate}
 use lib.Pow.{pow_pos, pow_mono}
+use lib.Seq.{take-length}
 use Rattle.rules.specs.Bits.{low_bits}
 use Rattle.rules.specs.Runs.{rice_form, rice_forms}
-use Rattle.write_bits.specs.declared.Pen.{Pen}
+use Rattle.write_bits.specs.declared.pen.Pen.{Pen}
 use Rattle.write_bits.specs.Puts.{Able, Puts}
 use Rattle.rules.proofs.Words.{low_bits-mod, low_bits-join}
 use Rattle.write_bits.proofs.Putting.{puts_none, puts_then, puts-as, able-then}
@@ -22,20 +23,10 @@ pub record ZerosTurn (o : List ℕ) (v : ℕ) (p : Pen) (o' : List ℕ) (p' : Pe
   pub left : zeros ≤ v
   pub size : length o' ≡ length o
 
-pub zeros-start : {o : List ℕ} {v : ℕ} {p : Pen} → Able o p v → ZerosTurn o v p o p v
-zeros-start {v = v} able =
-    let e : v - v ≡ 0 = omega arith in
-    record { puts = rw e (puts_none able.held able.word); left = omega arith; size = refl }
-
 zeros-join : (k n : ℕ) {m : ℕ} → k + n ≡ m → replicate k 0 ++ low_bits n 0 ≡ replicate m 0
 zeros-join k n e = rw (zero_bits n, replicate-append-replicate {A = ℕ} k n 0, e)
 
 module _ {o o' : List ℕ} {v : ℕ} {p p' : Pen} {zeros : ℕ} (turn : ZerosTurn o v p o' p' zeros) where
-  -- room for what is still to come
-  pub zeros-able : Able o p v → (n : ℕ) → n ≤ zeros → Able o' p' n
-  zeros-able able n few =
-      able-then n able turn.puts turn.size (omega (arith, turn.left, length-replicate {A = ℕ} (v - zeros) 0))
-
   pub zeros-then : (n : ℕ) → n ≤ zeros → {o'' : List ℕ} {p'' : Pen} → Puts o' p' (low_bits n 0) o'' p'' → length o'' ≡ length o'
       → ZerosTurn o v p o'' p'' (zeros - n)
   zeros-then n few put size =
@@ -53,9 +44,6 @@ rice-fits k s v e =
     let b : 2 ^ suc s ≤ 2 ^ (k + 1 + s) = pow_mono {j = k + 1 + s} (omega arith) in
     let f : 2 ^ suc s ≡ 2 ^ s * 2 = pow-suc 2 s in
     rw e (omega arith)
-
-pub rice-word : (s v : ℕ) {one : ℕ} → one ≡ 2 ^ s → s ≤ 15 → one + v % one < 2 ^ 64
-rice-word s v e h = lt_of_lt_of_le (rice-fits 0 s v e) (pow_mono {j = 64} (omega arith))
 
 -- the last of a Rice code: k zeros, the one, and the low bits
 rice-end : (k s v : ℕ) {one : ℕ} → one ≡ 2 ^ s → low_bits (k + 1 + s) (one + v % one) ≡ replicate k 0 ++ (1 ∷ low_bits s v)
@@ -78,28 +66,23 @@ unfolding rice_form
 rice-long s v e zeros put =
     puts_then zeros (puts-as put (rice-end 0 s v e))
 
-pub record RunsTurn (o : List ℕ) (p : Pen) (s : ℕ) (runs o' : List ℕ) (p' : Pen) (count j : ℕ) : Type 0 where
+-- the runs done, and one more
+pub record RunsTurn (o : List ℕ) (p : Pen) (s : ℕ) (runs o' : List ℕ) (p' : Pen) (j : ℕ) : Type 0 where
   pub puts : Puts o p (rice_forms s (take j runs)) o' p'
-  pub within : j ≤ count
   pub size : length o' ≡ length o
 
-module _ {o o' runs : List ℕ} {p p' : Pen} {s count j : ℕ} (turn : RunsTurn o p s runs o' p' count j) (h : j < count)
-    (long : count ≤ length runs) where
-  pub runs-able : Able o p (length (rice_forms s (take count runs))) → {v : ℕ} → v ≡ get_or runs j 0 → Able o' p' (length (rice_form s v))
+module _ {o o' runs : List ℕ} {p p' : Pen} {s j : ℕ} (turn : RunsTurn o p s runs o' p' j) (h : j < length runs) where
+  pub runs-able : Able o p (length (rice_forms s runs)) → {v : ℕ} → v ≡ get_or runs j 0 → Able o' p' (length (rice_form s v))
   runs-able able e =
-      let a = forms-le s runs (j + 1) count (omega arith) in
-      let b = ap length (forms-suc s runs j (omega arith)) ∙ length-append (rice_forms s (take j runs)) (rice_form s (get_or runs j 0)) in
+      let a = rw (take-length runs) at (forms-le s runs (j + 1) (length runs) (omega arith)) in
+      let b = ap length (forms-suc s runs j h) ∙ length-append (rice_forms s (take j runs)) (rice_form s (get_or runs j 0)) in
       rw e (able-then _ able turn.puts turn.size (omega arith))
 
   pub runs_then : {v : ℕ} → v ≡ get_or runs j 0 → {o'' : List ℕ} {p'' : Pen} → Puts o' p' (rice_form s v) o'' p'' → length o'' ≡ length o'
-      → RunsTurn o p s runs o'' p'' count (j + 1)
+      → RunsTurn o p s runs o'' p'' (j + 1)
   runs_then e put size =
-      record {
-        puts = rw (forms-suc s runs j (omega arith)) (puts_then turn.puts (rw e at put));
-        within = omega arith;
-        size = size ∙ turn.size;
-      }
+      record { puts = rw (forms-suc s runs j h) (puts_then turn.puts (rw e at put)); size = size ∙ turn.size }
 
-pub runs_none : {o : List ℕ} {p : Pen} {n : ℕ} (s : ℕ) (runs : List ℕ) → Able o p n → Puts o p (rice_forms s (take 0 runs)) o p
+pub runs_none : (o : List ℕ) (p : Pen) (s : ℕ) (runs : List ℕ) → RunsTurn o p s runs o p 0
 unfolding rice_forms
-runs_none s runs able = puts_none able.held able.word
+runs_none o p s runs = record { puts = puts_none o p; size = refl }

@@ -1,15 +1,13 @@
 -- A pen: the bits that it has put are those of the octets before its place, and then those that it holds.
-use Rattle.std.specs.Prelude.{ℕ, ◌+◌, ◌*◌, ◌^◌, ◌≤◌, ◌<◌, ◌≡◌, List, ◌++◌, length, take, drop}
+use Rattle.std.specs.Prelude.{ℕ, ◌+◌, ◌*◌, ◌≤◌, ◌≡◌, List, ◌++◌, length, take, drop}
 use Rattle.rules.specs.Bits.{low_bits, bits_of, octets_for, pack}
-use Rattle.write_bits.specs.declared.Pen.{Pen}
+use Rattle.write_bits.specs.declared.pen.Pen.{Pen}
 
 unfoldable pub pen_bits : List ℕ → Pen → List ℕ
 pen_bits o p = bits_of (take p.at o) ++ low_bits p.held p.word
 
--- a pen that is in order, with room for n more bits
+-- a pen with room for n more bits
 pub record Able (o : List ℕ) (p : Pen) (n : ℕ) : Type 0 where
-  pub held : p.held < 32
-  pub word : p.word < 2 ^ 32
   pub room : 8 * p.at + p.held + n ≤ 8 * length o
 
 -- the bits put after those that were there; what is past the pen's new place is as it was
@@ -18,8 +16,6 @@ pub record Puts (o : List ℕ) (p : Pen) (bits o' : List ℕ) (p' : Pen) : Type 
   pub rest : drop p'.at o' ≡ drop p'.at o
   pub place : 8 * p'.at + p'.held ≡ 8 * p.at + p.held + length bits
   pub grows : p.at ≤ p'.at
-  pub held : p'.held < 32
-  pub word : p'.word < 2 ^ 32
 
 -- a word of 32 bits stored as four octets
 pub record Stores (o : List ℕ) (at w : ℕ) (o' : List ℕ) : Type 0 where

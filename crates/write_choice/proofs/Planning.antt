@@ -4,29 +4,30 @@ use mathlib.Core.Path.{◌≡◌, refl, sym, ap, ◌∙◌}
 use mathlib.Core.List.{List, [], ◌∷◌, map}
 use mathlib.Core.Bool.{Bool, true, false, cond, ◌&&◌}
 use native.Mathlib.Omega.{arith}
-use borrow.Author.Tests.{lt-leb, leb-false, ltb-true, ltb-false, eq-eqb, ne_eqb, eqb-true, eqb-false}
+use borrow.Author.Tests.{lt-leb, leb-false, eq-eqb, ne_eqb, eqb-true, eqb-false}
 use lib.ListN.{length}
-use lib.Dec.{eqb, leb, ltb}
+use lib.Dec.{eqb, leb}
 use Rattle.rules.specs.Tools.{holds}
 use Rattle.rules.specs.Zeros.{flag_of}
-use Rattle.rules.specs.Fractional.{row_count, body_bits}
-use Rattle.rules.specs.Chooses.{row_or, applies, form_of, choose, chosen_tool, least_of, greatest_of, frame_row}
-use Rattle.rules.proofs.Tests.{and_left}
+use Rattle.rules.specs.Fractional.{body_bits}
+use Rattle.rules.specs.Chooses.{applies, form_of, choose, chosen_tool, least_of, greatest_of, frame_row}
 use Rattle.write_scan.specs.Looks.{near, two_zeros}
+use Rattle.write_scan.specs.declared.row.Row.{Row}
 use Rattle.write_scan.specs.Rows.{RowIs}
 use Rattle.write_offers.specs.declared.Choice.{Choice}
-use Rattle.write_offers.specs.declared.Offer.{Offer}
-use Rattle.write_offers.specs.Offers.{whole_bits, offer_if}
+use Rattle.std.proofs.Common.{Option, Some, None}
+use Rattle.write_fractional.specs.Keys.{row_in}
+use Rattle.write_offers.specs.Offers.{whole_bits}
 use Rattle.write_zeros.specs.declared.Zeros.{Zeros}
 use Rattle.write_located.specs.declared.Located.{Located}
 use Rattle.write_located.specs.Rows.{LocatedIs}
-use Rattle.write_zeros.specs.Rice.{RiceFor}
+use Rattle.write_zeros.specs.Rice.{RiceIs}
 use Rattle.write_offers.specs.Ties.{taken, BetterIs, ChosenIs}
 use Rattle.write_choice.specs.declared.plans.Plain.{Plain}
 use Rattle.write_choice.specs.declared.plans.ZerosPlan.TheVariants.{Whole, Binary, Rice}
 use Rattle.write_choice.specs.declared.plans.NearPlan.TheVariants.{Last, Values}
 use Rattle.write_choice.specs.Plans.{measured, Left, Chosen, LastIs}
-use Rattle.write_choice.specs.Plans.{ZerosPlanned, zeros_by, NearPlanned, seven_or, near_by}
+use Rattle.write_choice.specs.Plans.{ZerosPlanned, plain_by, zeros_by, NearPlanned, seven_or, near_by}
 use Rattle.write_scan.proofs.Tests.{never, and_zero}
 use Rattle.write_located.proofs.Near.{zeros-unlocated}
 use Rattle.write_zeros.proofs.TwoZeros.{rice-applies, zeros-apply}
@@ -62,55 +63,74 @@ chosen_is {mask} {s = s} t e size few =
     record { tool = sym e; bits = size ∙ ap (λ (t : ℕ). length (form_of mask t s)) (sym e); small = few }
 
 -- binary, where it was chosen
-pub binary-planned : {mask set n b : ℕ} {s row runs : List ℕ} → length s ≡ n → n ≤ 320 → chosen_tool mask set s ≡ 5 → b ≡ 8 + n
+pub binary-planned : {mask set n b : ℕ} {s runs : List ℕ} {row : Row} → length s ≡ n → n ≤ 320 → chosen_tool mask set s ≡ 5 → b ≡ 8 + n
     → RowIs (map (flag_of mask 0) s) (n / 40) row → ZerosPlanned mask set s (Binary b) row runs
-binary-planned {mask} {s = s} {row} size few e bits words =
+binary-planned {mask} {s = s} size few e bits words =
     record { chosen = chosen_is 5 e (bits ∙ binary-bits mask s size) (omega arith); needs = rw size words }
 
--- a frame of the two zeros: uncompressed, then Rice, then binary
-pub zeros-planned : {mask set n b : ℕ} {s row runs : List ℕ} {rice : Zeros} {one six five : Choice} {h₆ h₅ : Bool} → mask < 128
-    → two_zeros mask s ≡ true → length s ≡ n → n ≤ 320 → chosen_tool mask set s ≡ choose mask set s measured
-    → RiceFor mask set s rice runs → one ≡ record { tool = 1; bits = whole_bits 1 n } → h₆ ≡ holds set 6
-    → BetterIs one 6 h₆ rice.bits six → h₅ ≡ holds set 5 → b ≡ 8 + n → BetterIs six 5 h₅ b five
-    → RowIs (map (flag_of mask 0) s) (n / 40) row → ZerosPlanned mask set s (zeros_by five rice) row runs
-zeros-planned {mask} {set} {n} {b} {s} {row} {runs} {rice} {one} {five = five} {h₆ = h₆} {h₅ = h₅}
-    seven zeros size few later riced e₁ e₆ b₆ e₅ eb b₅ words =
-    go (eqb five.tool 5) refl (eqb five.tool 6) refl
-  where
-    on : applies mask 6 s ≡ true
-    on = zeros-apply mask s ∙ zeros
+-- a frame of the two zeros: uncompressed, then Rice where it is held, then binary
+module _ (mask set : ℕ) (s : List ℕ) {n : ℕ} {one : Choice} (seven : mask < 128) (zeros : two_zeros mask s ≡ true) (size : length s ≡ n)
+    (few : n ≤ 320) (later : chosen_tool mask set s ≡ choose mask set s measured)
+    (first : one ≡ record { tool = 1; bits = whole_bits 1 n }) where
+  on : applies mask 6 s ≡ true
+  on = zeros-apply mask s ∙ zeros
 
-    c₇ : ChosenIs mask set s (7 ∷ 11 ∷ []) one
-    c₇ = choose-past 7 (past set 7 (zeros-unlocated mask seven s zeros))
-        (choose-past 11 (past set 11 (zeros-unrowed mask seven s zeros)) (uncompressed-is mask set s size few e₁))
+  c₇ : ChosenIs mask set s (7 ∷ 11 ∷ []) one
+  c₇ = choose-past 7 (past set 7 (zeros-unlocated mask seven s zeros))
+      (choose-past 11 (past set 11 (zeros-unrowed mask seven s zeros)) (uncompressed-is mask set s size few first))
 
-    c₅ : ChosenIs mask set s measured five
-    c₅ = choose-step (choose-step c₇ 6 h₆ rice.bits (e₆ ∙ offers set 6 on) (λ h. (riced.rice (sym e₆ ∙ h)).bits ∙ rice-form mask s) b₆)
-        5 h₅ b (e₅ ∙ offers set 5 (rice-applies mask s ∙ on)) (λ h. eb ∙ binary-bits mask s size) b₅
+  ends : choose mask set s (7 ∷ 11 ∷ []) ≡ 1
+  ends = sym c₇.tool ∙ ap (λ (c : Choice). c.tool) first
 
-    P : ℕ → Type 0
-    P t = (t ≡ 5 → ⊥) → (t ≡ 6 → ⊥) → t ≡ 1
+  -- where it is not Rice
+  plain-planned : {five : Choice} {runs : List ℕ} {row : Row} → ChosenIs mask set s measured five → (five.tool ≡ 6 → ⊥)
+      → RowIs (map (flag_of mask 0) s) (n / 40) row → ZerosPlanned mask set s (plain_by five) row runs
+  plain-planned {five} {runs} {row} c other words = go (eqb five.tool 5) refl
+    where
+      P : ℕ → Type 0
+      P t = (t ≡ 5 → ⊥) → (t ≡ 6 → ⊥) → t ≡ 1
 
-    kind : P five.tool
-    kind =
-        let last : P (choose mask set s (7 ∷ 11 ∷ [])) = rw (← c₇.tool, e₁) (λ x y. refl) in
-        rw c₅.tool (among mask s set P 5 _ (λ x y. absurd (x refl)) (among mask s set P 6 _ (λ x y. absurd (y refl)) last))
+      kind : P five.tool
+      kind =
+          let end : P (choose mask set s (7 ∷ 11 ∷ [])) = λ x y. ends in
+          rw c.tool (among mask s set P 5 _ (λ x y. absurd (x refl)) (among mask s set P 6 _ (λ x y. absurd (y refl)) end))
 
-    go : (x : Bool) → eqb five.tool 5 ≡ x → (y : Bool) → eqb five.tool 6 ≡ y
-        → ZerosPlanned mask set s (cond x (Binary five.bits) (cond y (Rice rice) (Whole five))) row runs
-    go true x y z =
-        let e : chosen_tool mask set s ≡ 5 = later ∙ sym c₅.tool ∙ eqb-true _ _ x in
-        let five-bits : five.bits ≡ 8 + n
-        = c₅.bits ∙ ap (λ (t : ℕ). length (form_of mask t s)) (sym later ∙ e) ∙ sym (binary-bits mask s size) in
-        binary-planned size few e five-bits words
-    go false x true z =
-        let e : chosen_tool mask set s ≡ 6 = later ∙ sym c₅.tool ∙ eqb-true _ _ z in
-        let offered = chosen-offered mask set s measured 6 (sym later ∙ e) (λ w. omega arith) in
-        let i = riced.rice (and_left (holds set 6) (applies mask 6 s) offered) in
-        record { chosen = chosen_is 6 e (i.bits ∙ rice-form mask s) riced.small; needs = i }
-    go false x false z =
-        let is : five.tool ≡ 1 = kind (eqb-false _ _ x) (eqb-false _ _ z) in
-        record { chosen = chosen-among later c₅; needs = (omega (arith, is), omega (arith, is)) }
+      go : (x : Bool) → eqb five.tool 5 ≡ x → ZerosPlanned mask set s (cond x (Binary five.bits) (Whole five)) row runs
+      go true x =
+          let e : chosen_tool mask set s ≡ 5 = later ∙ sym c.tool ∙ eqb-true _ _ x in
+          let five-bits : five.bits ≡ 8 + n
+          = c.bits ∙ ap (λ (t : ℕ). length (form_of mask t s)) (sym later ∙ e) ∙ sym (binary-bits mask s size) in
+          binary-planned size few e five-bits words
+      go false x =
+          let is : five.tool ≡ 1 = kind (eqb-false _ _ x) other in
+          record { chosen = chosen-among later c; needs = (omega (arith, is), omega (arith, is)) }
+
+  module _ {b : ℕ} {five : Choice} {h₅ : Bool} (e₅ : h₅ ≡ holds set 5) (eb : b ≡ 8 + n) where
+    binary-step : {six : Choice} → ChosenIs mask set s (6 ∷ 7 ∷ 11 ∷ []) six → BetterIs six 5 h₅ b five → ChosenIs mask set s measured five
+    binary-step c₆ b₅ =
+        choose-step c₆ 5 h₅ b (e₅ ∙ offers set 5 (rice-applies mask s ∙ on)) (λ h. eb ∙ binary-bits mask s size) b₅
+
+    pub zeros-without : {runs : List ℕ} {row : Row} → RowIs (map (flag_of mask 0) s) (n / 40) row → holds set 6 ≡ false
+        → BetterIs one 5 h₅ b five → ZerosPlanned mask set s (plain_by five) row runs
+    zeros-without words lacks b₅ =
+        let none : (holds set 6 && applies mask 6 s) ≡ false = ap (λ (h : Bool). h && applies mask 6 s) lacks in
+        let c₅ = binary-step (choose-past 6 none c₇) b₅ in
+        plain-planned c₅ (λ e. never (sym none ∙ chosen-offered mask set s measured 6 (sym c₅.tool ∙ e) (λ w. omega arith))) words
+
+    pub zeros-planned : {runs : List ℕ} {row : Row} {rice : Zeros} {six : Choice} → RowIs (map (flag_of mask 0) s) (n / 40) row
+        → holds set 6 ≡ true → RiceIs mask s rice runs → BetterIs one 6 true rice.bits six
+        → BetterIs six 5 h₅ b five → ZerosPlanned mask set s (zeros_by five rice) row runs
+    zeros-planned {runs} {row} {rice} words held i b₆ b₅ = go (eqb five.tool 6) refl
+      where
+        c₅ : ChosenIs mask set s measured five
+        c₅ = binary-step
+            (choose-step c₇ 6 true rice.bits (sym held ∙ offers set 6 on) (λ h. i.bits ∙ rice-form mask s) b₆) b₅
+
+        go : (x : Bool) → eqb five.tool 6 ≡ x → ZerosPlanned mask set s (cond x (Rice rice) (plain_by five)) row runs
+        go true x =
+            let e : chosen_tool mask set s ≡ 6 = later ∙ sym c₅.tool ∙ eqb-true _ _ x in
+            record { chosen = chosen_is 6 e (i.bits ∙ rice-form mask s) i.small; needs = i }
+        go false x = plain-planned c₅ (eqb-false _ _ x) words
 
 short-off : (mask : ℕ) (s : List ℕ) → length s < 80 → applies mask 7 s ≡ false
 unfolding applies
@@ -196,32 +216,22 @@ module _ (mask set : ℕ) (s : List ℕ) {n : ℕ} {one : Choice} (size : length
         plain = record { row = λ e. absurd (omega (arith, e, t)); kind = λ x. (omega (arith, t), omega (arith, t)) };
       }
 
-  pub last_row : {k : ℕ} {o : Offer} {best : Choice} → holds set 11 ≡ true → k ≡ row_or (row_count n) (frame_row mask s)
-      → o ≡ offer_if (ltb k (row_count n)) (8 + body_bits k n) → BetterIs one 11 (eqb o.why 0) o.bits best
+  pub last_row : {k b : ℕ} {best : Choice} → holds set 11 ≡ true → Some k ≡ row_in (frame_row mask s)
+      → b ≡ 8 + body_bits k (length s) → BetterIs one 11 true b best
       → LastIs mask set s (record { choice = best; row = k })
-  last_row {k} {o} {best} held row told better = go (ltb k (row_count n)) refl (rw told at better)
-    where
-      go : (x : Bool) → ltb k (row_count n) ≡ x → BetterIs one 11 (eqb (cond x 0 1) 0) (cond x (8 + body_bits k n) 0) best
-          → LastIs mask set s (record { choice = best; row = k })
-      go true h better =
-          let in_row = ltb-true _ _ h in
-          let on = row-applies mask s size row in_row in
-          let offered : true ≡ (holds set 11 && applies mask 11 s) = rw (held, on) in
-          let done = choose-step (uncompressed-is mask set s size few first) 11 true _ offered
-          (λ z. row-bits mask s size row in_row) better in
-          let P : ℕ → Type 0 = λ t. (t ≡ 11 → ⊥) → (1 ≤ t) × (t ≤ 4) in
-          let one-fits : P 1 = λ x. (omega arith, omega arith) in
-          record {
-            chosen = done;
-            plain = record {
-              row = λ z. (row_number_lem mask s size row in_row, row-held mask s size row in_row);
-              kind = rw done.tool (among mask s set P 11 [] (λ x. absurd (x refl)) (alone mask s set P one-fits));
-            };
-          }
-      go false h better =
-          let off = past set 11 (row-unmet mask s size row (ltb-false _ _ h)) in
-          let is : best.tool ≡ 1 = better.tool ∙ ap (λ (c : Choice). c.tool) first in
-          record {
-            chosen = choose-step (uncompressed-is mask set s size few first) 11 false 0 (sym off) (λ z. absurd (never z)) better;
-            plain = record { row = λ e. absurd (omega (arith, e, is)); kind = λ x. (omega (arith, is), omega (arith, is)) };
-          }
+  last_row {k} {b} {best} held row bits better =
+      let on = row-applies mask s row in
+      let offered : true ≡ (holds set 11 && applies mask 11 s) = rw (held, on) in
+      let done = choose-step (uncompressed-is mask set s size few first) 11 true b offered (λ z. bits ∙ row-bits mask s row) better in
+      let P : ℕ → Type 0 = λ t. (t ≡ 11 → ⊥) → (1 ≤ t) × (t ≤ 4) in
+      let one-fits : P 1 = λ x. (omega arith, omega arith) in
+      record {
+        chosen = done;
+        plain = record {
+          row = λ z. (row_number_lem mask s row, row-held mask s row);
+          kind = rw done.tool (among mask s set P 11 [] (λ x. absurd (x refl)) (alone mask s set P one-fits));
+        };
+      }
+
+  pub last-unmet : ◌≡◌ {A = Option ℕ} None (row_in (frame_row mask s)) → LastIs mask set s (record { choice = one; row = 0 })
+  last-unmet row = last-plain (past set 11 (row-unmet mask s row)) 0

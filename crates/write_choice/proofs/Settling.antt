@@ -5,6 +5,7 @@ use mathlib.Core.List.{List, [], ◌∷◌, map}
 use mathlib.Core.Bool.{Bool, true, false, cond, ◌&&◌, ◌||◌}
 use native.Mathlib.Omega.{arith}
 use borrow.Author.Tests.{eq-eqb, ne_eqb, eqb-true, le-leb, ltb-false}
+use Rattle.std.proofs.Common.{Option, Some, None}
 use lib.ListN.{length, get_or, length-append, length-map}
 use lib.Dec.{eqb, leb, ltb}
 use Rattle.rules.specs.Bits.{low_bits}
@@ -22,7 +23,8 @@ use Rattle.write_scan.specs.declared.Spread.{Spread}
 use Rattle.write_scan.specs.Looks.{near, SpreadIs}
 use Rattle.rules.proofs.Counts.{count-le}
 use Rattle.write_runs.proofs.Finding.{runs-common, runs_other}
-use Rattle.write_choice.specs.Plans.{measured, value_tool, SettledTool, Chosen}
+use Rattle.write_choice.specs.declared.settle.Settled.TheVariants.{Tool}
+use Rattle.write_choice.specs.Plans.{measured, value_tool, SettledTool, Settles}
 use Rattle.write_scan.proofs.Tests.{never, and_zero}
 use Rattle.write_located.proofs.Near.{located-near}
 use Rattle.write_zeros.proofs.TwoZeros.{rice-applies, rice-sum}
@@ -155,33 +157,25 @@ module _ (mask : ℕ) (s : List ℕ) where
     unfolding choose
     won t ts e h = rw (e, le-leb (octets_of_form mask s t) (octets_of_form mask s (choose mask set s ts)) h)
 
-    pub plus-settled : (holds set 2 && applies mask 2 s) ≡ true → SettledTool mask set s 2
-    plus-settled e =
-        record {
-          settled = λ n. sym (won 2 _ e (omega (arith, plus-bits mask s refl, form-some (choose mask set s (3 ∷ 4 ∷ measured)))));
-          left = λ z. absurd (omega arith);
-          most = omega arith;
-        }
+    pub plus-settled : (holds set 2 && applies mask 2 s) ≡ true → SettledTool mask set s (Some 2)
+    plus-settled e = (
+      sym (won 2 _ e (omega (arith, plus-bits mask s refl, form-some (choose mask set s (3 ∷ 4 ∷ measured))))),
+      (omega arith, omega arith),
+    )
 
     module _ (two : (holds set 2 && applies mask 2 s) ≡ false) where
-      pub minus-settled : (holds set 3 && applies mask 3 s) ≡ true → SettledTool mask set s 3
-      minus-settled e =
-          record {
-            settled = λ n. sym (passed 2 _ two
-                ∙ won 3 _ e (omega (arith, minus-bits mask s refl, form-some (choose mask set s (4 ∷ measured)))));
-            left = λ z. absurd (omega arith);
-            most = omega arith;
-          }
+      pub minus-settled : (holds set 3 && applies mask 3 s) ≡ true → SettledTool mask set s (Some 3)
+      minus-settled e = (
+        sym (passed 2 _ two ∙ won 3 _ e (omega (arith, minus-bits mask s refl, form-some (choose mask set s (4 ∷ measured))))),
+        (omega arith, omega arith),
+      )
 
       module _ (three : (holds set 3 && applies mask 3 s) ≡ false) where
-        pub constant-settled : 5 ≤ length s → (holds set 4 && applies mask 4 s) ≡ true → SettledTool mask set s 4
-        constant-settled some e =
-            record {
-              settled = λ n. sym (passed 2 _ two ∙ passed 3 _ three
-                  ∙ won 4 _ e (omega (arith, constant-bits mask s refl, measured-long set some)));
-              left = λ z. absurd (omega arith);
-              most = omega arith;
-            }
+        pub constant-settled : 5 ≤ length s → (holds set 4 && applies mask 4 s) ≡ true → SettledTool mask set s (Some 4)
+        constant-settled some e = (
+          sym (passed 2 _ two ∙ passed 3 _ three ∙ won 4 _ e (omega (arith, constant-bits mask s refl, measured-long set some))),
+          (omega arith, omega arith),
+        )
 
         -- where neither of the zeros' tools nor value-location applies, the last two of the order are left
         module _ (four : (holds set 4 && applies mask 4 s) ≡ false) where
@@ -193,25 +187,16 @@ module _ (mask : ℕ) (s : List ℕ) where
               passed 2 _ two ∙ passed 3 _ three ∙ passed 4 _ four ∙ passed 5 _ (none 5 five) ∙ passed 6 _ (none 6 six)
               ∙ passed 7 _ (none 7 seven)
 
-          pub unsettled : (near (least_of mask s) (greatest_of mask s) ≡ false → applies mask 6 s ≡ false) → SettledTool mask set s 0
+          pub unsettled : (near (least_of mask s) (greatest_of mask s) ≡ false → applies mask 6 s ≡ false) → SettledTool mask set s None
           unsettled six =
               record {
-                settled = λ n. absurd (n refl);
-                left = λ z. record {
-                  later = passed 2 _ two ∙ passed 3 _ three ∙ passed 4 _ four;
-                  far = λ far. far-left (six far) (located-near mask s far);
-                };
-                most = omega arith;
+                later = passed 2 _ two ∙ passed 3 _ three ∙ passed 4 _ four;
+                far = λ far. far-left (six far) (located-near mask s far);
               }
 
           pub spread-settled : applies mask 6 s ≡ false → applies mask 7 s ≡ false → (holds set 11 && applies mask 11 s) ≡ false
-              → SettledTool mask set s 1
-          spread-settled six seven eleven =
-              record {
-                settled = λ n. sym (far-left six seven ∙ passed 11 _ eleven ∙ last);
-                left = λ z. absurd (omega arith);
-                most = omega arith;
-              }
+              → SettledTool mask set s (Some 1)
+          spread-settled six seven eleven = (sym (far-left six seven ∙ passed 11 _ eleven ∙ last), (omega arith, omega arith))
 
 -- a frame of one value
 head-passes : (p : ℕ → Bool) (x : ℕ) (s : List ℕ) → every p (x ∷ s) ≡ true → p x ≡ true
@@ -265,18 +250,18 @@ several {mask} {first} {s} {l} set some e t differ =
     none n y = rw (none-value y first s some e (sym t.same ∙ ne_eqb l.any l.all differ)) (and_zero (holds set n))
 
 -- what is said of it: its samples are near, or tool 11 may apply, or only uncompressed applies
-pub spread : {mask set first r : ℕ} {s : List ℕ} {l : Spread} → NoValue mask set s → SpreadIs mask first s l
-    → r ≡ cond (ltb (l.any % 128) 2) 0 (cond (ltb (l.any % 128) 4 && holds set 11) 0 1) → SettledTool mask set s r
+pub spread : {mask set first : ℕ} {r : Option ℕ} {s : List ℕ} {l : Spread} → NoValue mask set s → SpreadIs mask first s l
+    → r ≡ cond (ltb (l.any % 128) 2) None (cond (ltb (l.any % 128) 4 && holds set 11) None (Some 1)) → SettledTool mask set s r
 spread {mask} {set} {first} {r} {s} {l} v t told = rw told (go (ltb (l.any % 128) 2) refl (ltb (l.any % 128) 4) refl (holds set 11) refl)
   where
     six : near (least_of mask s) (greatest_of mask s) ≡ false → applies mask 6 s ≡ false
     six far = zeros-near t (t.close ∙ far)
 
-    settled : near (least_of mask s) (greatest_of mask s) ≡ false → (holds set 11 && applies mask 11 s) ≡ false → SettledTool mask set s 1
+    settled : near (least_of mask s) (greatest_of mask s) ≡ false → (holds set 11 && applies mask 11 s) ≡ false → SettledTool mask set s (Some 1)
     settled far eleven = spread-settled mask s set v.two v.three v.four (six far) (located-near mask s far) eleven
 
     go : (a : Bool) → ltb (l.any % 128) 2 ≡ a → (b : Bool) → ltb (l.any % 128) 4 ≡ b → (h : Bool) → holds set 11 ≡ h
-        → SettledTool mask set s (cond a 0 (cond (b && h) 0 1))
+        → SettledTool mask set s (cond a None (cond (b && h) None (Some 1)))
     go true e b f h g = unsettled mask s set v.two v.three v.four six
     go false e true f true g = unsettled mask s set v.two v.three v.four six
     go false e true f false g = settled (sym t.close ∙ e) (ap (λ (h : Bool). h && applies mask 11 s) g)
@@ -305,30 +290,34 @@ one_of {mask} {first} {s} {l} set some e t equal =
       four = ap (λ (b : Bool). holds set 4 && b) (ap (λ (k : ℕ). every (λ x. eqb x k) s) (sym e) ∙ all) ∙ and-true (holds set 4);
     }
 
-module _ {mask set first r : ℕ} {s : List ℕ} (o : OneValue mask set first s) (told : r ≡ value_tool mask set first) where
-  pub value-settled : (r ≡ 0 → ⊥) → SettledTool mask set s r
-  value-settled held =
-      rw told (go (holds set 2 && eqb first (plus_zero mask)) (holds set 3 && eqb first (minus_zero mask)) (holds set 4)
-      o.two o.three o.four (λ z. held (told ∙ z)))
+module _ {mask set first : ℕ} {r : Option ℕ} {s : List ℕ} (o : OneValue mask set first s) (told : r ≡ value_tool mask set first) where
+  pub value-settled : {t : ℕ} → r ≡ Some t → SettledTool mask set s (Some t)
+  value-settled {t} held =
+      go (holds set 2 && eqb first (plus_zero mask)) (holds set 3 && eqb first (minus_zero mask)) (holds set 4)
+      o.two o.three o.four (sym held ∙ told)
+    where
+      at_tool : (k : ℕ) → Some t ≡ Some k → SettledTool mask set s (Some k) → SettledTool mask set s (Some t)
+      at_tool k n p = let e : t ≡ k = cc in rw e p
+
+      go : (a b c : Bool) → (holds set 2 && applies mask 2 s) ≡ a → (holds set 3 && applies mask 3 s) ≡ b
+          → (holds set 4 && applies mask 4 s) ≡ c
+          → Some t ≡ cond a (Some 2) (cond b (Some 3) (cond c (Some 4) None)) → SettledTool mask set s (Some t)
+      go true b c e f g n = at_tool 2 n (plus-settled mask s set e)
+      go false true c e f g n = at_tool 3 n (minus-settled mask s set e f)
+      go false false true e f g n = at_tool 4 n (constant-settled mask s set e f o.some g)
+      go false false false e f g n = cc
+
+  pub value-lacks : r ≡ None → NoValue mask set s
+  value-lacks none =
+      go (holds set 2 && eqb first (plus_zero mask)) (holds set 3 && eqb first (minus_zero mask)) (holds set 4) o.two
+      o.three o.four (sym told ∙ none)
     where
       go : (a b c : Bool) → (holds set 2 && applies mask 2 s) ≡ a → (holds set 3 && applies mask 3 s) ≡ b
           → (holds set 4 && applies mask 4 s) ≡ c
-          → (◌≡◌ {A = ℕ} (cond a 2 (cond b 3 (cond c 4 0))) 0 → ⊥) → SettledTool mask set s (cond a 2 (cond b 3 (cond c 4 0)))
-      go true b c e f g n = plus-settled mask s set e
-      go false true c e f g n = minus-settled mask s set e f
-      go false false true e f g n = constant-settled mask s set e f o.some g
-      go false false false e f g n = absurd (n refl)
-
-  pub value-lacks : r ≡ 0 → NoValue mask set s
-  value-lacks zero' =
-      go (holds set 2 && eqb first (plus_zero mask)) (holds set 3 && eqb first (minus_zero mask)) (holds set 4) o.two
-      o.three o.four (sym told ∙ zero')
-    where
-      go : (a b c : Bool) → (holds set 2 && applies mask 2 s) ≡ a → (holds set 3 && applies mask 3 s) ≡ b
-          → (holds set 4 && applies mask 4 s) ≡ c → ◌≡◌ {A = ℕ} (cond a 2 (cond b 3 (cond c 4 0))) 0 → NoValue mask set s
-      go true b c e f g z = absurd (omega (arith, z))
-      go false true c e f g z = absurd (omega (arith, z))
-      go false false true e f g z = absurd (omega (arith, z))
+          → ◌≡◌ {A = Option ℕ} (cond a (Some 2) (cond b (Some 3) (cond c (Some 4) None))) None → NoValue mask set s
+      go true b c e f g z = cc
+      go false true c e f g z = cc
+      go false false true e f g z = cc
       go false false false e f g z = record { two = e; three = f; four = g }
 
 -- a test against a zero, said of the zero that is meant
@@ -348,12 +337,13 @@ whole-bits mask (suc (suc (suc (suc (suc t))))) s size h k = absurd (omega arith
 whole-few : (t n : ℕ) → n ≤ 320 → whole_bits t n ≤ 1000000000
 whole-few t n h = of_two (λ b. b ≤ 1000000000) (eqb t 1) (omega arith) (of_two (λ b. b ≤ 1000000000) (eqb t 4) (omega arith) (omega arith))
 
-pub settled-chosen : {mask set t b n : ℕ} {s : List ℕ} → SettledTool mask set s t → length s ≡ n → n ≤ 320
-    → b ≡ whole_bits t n → (t ≡ 0 → ⊥) → Chosen mask set s (record { tool = t; bits = b })
-settled-chosen {mask} {set} {t} {b} {n} {s} p size few told some =
-    let e = p.settled some in
-    record {
-      tool = e;
-      bits = told ∙ whole-bits mask t s size (omega (arith, some)) p.most ∙ ap (λ (k : ℕ). length (form_of mask k s)) e;
-      small = rw told (whole-few t n few);
-    }
+pub settled-chosen : {mask set t b n : ℕ} {s : List ℕ} → SettledTool mask set s (Some t) → length s ≡ n → n ≤ 320
+    → b ≡ whole_bits t n → Settles mask set s (Tool (record { tool = t; bits = b }))
+settled-chosen {mask} {set} {t} {b} {n} {s} p size few told = (
+  record {
+    tool = p.0;
+    bits = told ∙ whole-bits mask t s size p.1.0 p.1.1 ∙ ap (λ (k : ℕ). length (form_of mask k s)) p.0;
+    small = rw told (whole-few t n few);
+  },
+  p.1,
+)

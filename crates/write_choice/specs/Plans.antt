@@ -1,14 +1,18 @@
 -- The choice, and what a plan tells of it: the tool, its bits, and what its form needs.
-use Rattle.std.specs.Prelude.{ℕ, ◌/◌, ◌≤◌, ◌≡◌, List, [], ◌∷◌, map, true, false, cond, ◌&&◌, length, eqb}
+use Rattle.std.specs.Prelude.{ℕ, ◌/◌, ◌≤◌, ◌≡◌, List, [], ◌∷◌, Option, Some, None, map, true, false, cond, ◌&&◌, length, eqb, leb}
 use Rattle.rules.specs.Tools.{holds}
 use Rattle.rules.specs.Samples.{plus_zero, minus_zero}
 use Rattle.rules.specs.Zeros.{flag_of}
 use Rattle.rules.specs.Chooses.{choose, chosen_tool, form_of, least_of, greatest_of, has_row, row_number, frame_row}
 use Rattle.write_scan.specs.Looks.{near, two_zeros}
+use Rattle.write_scan.specs.declared.row.Row.{Row}
 use Rattle.write_scan.specs.Rows.{RowIs}
 use Rattle.write_offers.specs.declared.Choice.{Choice}
 use Rattle.write_offers.specs.Ties.{taken, ChosenIs}
 use Rattle.write_choice.specs.declared.settle.Settled.{Settled}
+use Rattle.write_choice.specs.declared.settle.Settled.TheVariants.{Tool, Of}
+use Rattle.write_choice.specs.declared.settle.Kind.{Kind}
+use Rattle.write_choice.specs.declared.settle.Kind.TheVariants.{TwoZeros, Near, Other}
 use Rattle.write_choice.specs.declared.plans.Plain.{Plain}
 use Rattle.write_choice.specs.declared.plans.ZerosPlan.{ZerosPlan}
 use Rattle.write_choice.specs.declared.plans.ZerosPlan.TheVariants.{Whole, Binary, Rice}
@@ -23,10 +27,10 @@ use Rattle.write_located.specs.Rows.{LocatedIs}
 abbrev pub measured : List ℕ
 measured = 5 ∷ 6 ∷ 7 ∷ 11 ∷ []
 
--- the tool of a frame of one value, or 0 where the set lacks it
-abbrev pub value_tool : ℕ → ℕ → ℕ → ℕ
-value_tool mask set x = cond (holds set 2 && eqb x (plus_zero mask)) 2
-    (cond (holds set 3 && eqb x (minus_zero mask)) 3 (cond (holds set 4) 4 0))
+-- the tool of a frame of one value, if the set has it
+abbrev pub value_tool : ℕ → ℕ → ℕ → Option ℕ
+value_tool mask set x = cond (holds set 2 && eqb x (plus_zero mask)) (Some 2)
+    (cond (holds set 3 && eqb x (minus_zero mask)) (Some 3) (cond (holds set 4) (Some 4) None))
 
 -- a frame that the look leaves: the choice lies among the tools that are measured. And one with a sample below -2 or above 1: among the
 -- last two
@@ -34,28 +38,16 @@ pub record Left (mask set : ℕ) (s : List ℕ) : Type 0 where
   pub later : chosen_tool mask set s ≡ choose mask set s measured
   pub far : near (least_of mask s) (greatest_of mask s) ≡ false → chosen_tool mask set s ≡ choose mask set s (11 ∷ [])
 
--- a tool that is settled, or 0 where the frame is left
-pub record SettledTool (mask set : ℕ) (s : List ℕ) (r : ℕ) : Type 0 where
-  pub settled : (r ≡ 0 → ⊥) → r ≡ chosen_tool mask set s
-  pub left : r ≡ 0 → Left mask set s
-  pub most : r ≤ 4
+-- a tool of 1 to 4 that is settled, or the frame is left
+abbrev pub SettledTool : ℕ → ℕ → List ℕ → Option ℕ → Type 0
+SettledTool mask set s (Some t) = (t ≡ chosen_tool mask set s) × ((1 ≤ t) × (t ≤ 4))
+SettledTool mask set s None = Left mask set s
 
 -- the paper's choice, told as a tool and its bits
 pub record Chosen (mask set : ℕ) (s : List ℕ) (r : Choice) : Type 0 where
   pub tool : r.tool ≡ chosen_tool mask set s
   pub bits : r.bits ≡ length (form_of mask (chosen_tool mask set s) s)
   pub small : r.bits ≤ 1000000000
-
--- the paper's choice, or tool 0 where the frame is left, and then whether it is of the two zeros
-abbrev pub choice_of : Settled → Choice
-choice_of r = record { tool = r.tool; bits = r.bits }
-
-pub record Settles (mask set : ℕ) (s : List ℕ) (r : Settled) : Type 0 where
-  pub chosen : (r.tool ≡ 0 → ⊥) → Chosen mask set s (choice_of r)
-  pub left : r.tool ≡ 0 → Left mask set s
-  pub zeros : r.zeros ≡ two_zeros mask s
-  pub close : r.close ≡ near (least_of mask s) (greatest_of mask s)
-  pub most : r.tool ≤ 4
 
 -- a form that needs no runs: whole octets, or fractional-bit with the frame's row
 pub record PlainIs (mask : ℕ) (s : List ℕ) (p : Plain) : Type 0 where
@@ -74,25 +66,39 @@ zeros_choice (Whole c) = c
 zeros_choice (Binary bits) = record { tool = 5; bits = bits }
 zeros_choice (Rice z) = record { tool = 6; bits = z.bits }
 
-abbrev pub ZerosNeeds : ℕ → List ℕ → ZerosPlan → List ℕ → List ℕ → Type 0
+abbrev pub ZerosNeeds : ℕ → List ℕ → ZerosPlan → Row → List ℕ → Type 0
 ZerosNeeds mask s (Whole c) row runs = (1 ≤ c.tool) × (c.tool ≤ 4)
 ZerosNeeds mask s (Binary bits) row runs = RowIs (map (flag_of mask 0) s) (length s / 40) row
 ZerosNeeds mask s (Rice z) row runs = RiceIs mask s z runs
 
-pub record ZerosPlanned (mask set : ℕ) (s : List ℕ) (p : ZerosPlan) (row runs : List ℕ) : Type 0 where
+pub record ZerosPlanned (mask set : ℕ) (s : List ℕ) (p : ZerosPlan) (row : Row) (runs : List ℕ) : Type 0 where
   pub chosen : Chosen mask set s (zeros_choice p)
   pub needs : ZerosNeeds mask s p row runs
 
--- the best of uncompressed, Rice and binary, as a plan
+-- the best of uncompressed and binary, as a plan; and of these and Rice
+abbrev pub plain_by : Choice → ZerosPlan
+plain_by best = cond (eqb best.tool 5) (Binary best.bits) (Whole best)
+
 abbrev pub zeros_by : Choice → Zeros → ZerosPlan
-zeros_by best rice =
-    cond (eqb best.tool 5) (Binary best.bits) (cond (eqb best.tool 6) (Rice rice) (Whole best))
+zeros_by best rice = cond (eqb best.tool 6) (Rice rice) (plain_by best)
 
 -- a frame of 80 samples or more from -2 to 1 that has a 1 or a -2
 pub record NearFrame (mask : ℕ) (s : List ℕ) : Type 0 where
   pub other : two_zeros mask s ≡ false
   pub close : near (least_of mask s) (greatest_of mask s) ≡ true
   pub long : 80 ≤ length s
+
+-- a frame that is left, and of which kind it is
+abbrev pub KindIs : ℕ → ℕ → List ℕ → Kind → Type 0
+KindIs mask set s TwoZeros = (Left mask set s) × (two_zeros mask s ≡ true)
+KindIs mask set s Near = (Left mask set s) × (NearFrame mask s)
+KindIs mask set s Other =
+    (Left mask set s) × ((two_zeros mask s ≡ false) × ((near (least_of mask s) (greatest_of mask s) && leb 80 (length s)) ≡ false))
+
+-- what the look tells: the paper's choice, of tools 1 to 4; or the frame is left
+abbrev pub Settles : ℕ → ℕ → List ℕ → Settled → Type 0
+Settles mask set s (Tool c) = (Chosen mask set s c) × ((1 ≤ c.tool) × (c.tool ≤ 4))
+Settles mask set s (Of kind) = KindIs mask set s kind
 
 -- a plan for such a frame
 abbrev pub near_choice : NearPlan → Choice

@@ -4,7 +4,7 @@ use write_located::Located;
 use write_offers::Choice;
 use write_zeros::Zeros;
 
-// A form that needs no runs: whole octets by tools 1 to 4, or fractional-bit with the frame's row.
+// A form that needs no runs: whole octets by tools 1 to 4, or fractional-bit with the frame's row. The row is read for tool 11 alone.
 #[derive(Clone, Copy, Drop)]
 pub struct Plain {
     pub choice: Choice,

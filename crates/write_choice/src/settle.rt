@@ -1,105 +1,97 @@
 // The look at a frame: the choice where it settles it, else which plan does.
 
-ghost use Rattle.std.specs.Prelude.{◌≡◌, true, cond, ◌&&◌, ◌%◌, ◌<◌, get_or, take, eqb, leb, ltb};
+ghost use Rattle.std.specs.Prelude.{◌≡◌, true, cond, ◌&&◌, ◌%◌, ◌<◌, get_or, Some, None, eqb, ltb};
 ghost use Rattle.rules.specs.Tools as tools;
 ghost use Rattle.write_scan.specs.Looks.{SpreadIs, is_mask, FrameIn};
 ghost use Rattle.write_choice.specs.Plans.{value_tool, SettledTool, Settles};
 
 use first_octet::holds;
 use law::{minus_zero, plus_zero};
-use write_offers::whole_bits;
+use write_offers::{Choice, whole_bits};
 use write_scan::{Spread, spread_of};
 
 // Whether a tool is for this sample, and held.
 fn is_for(x: u8, y: u8, set: u32, tool: u32) -> bool
     ensures { result ≡ tools.holds set tool && eqb x y }
 {
-    if !holds(set, tool) {
-        return false;
-    }
-    x == y
+    holds(set, tool) && x == y
 }
 
-// The tool of a frame of one value, or 0 where the set lacks it.
-fn one_value_tool(x: u8, mask: u8, set: u32) -> u32
+// The tool of a frame of one value, if the set has it.
+fn one_value_tool(x: u8, mask: u8, set: u32) -> Option<u32>
     requires { mask < 128 }
     ensures { result ≡ value_tool mask set x }
 {
     if is_for(x, plus_zero(mask), set, 2) {
-        return 2;
+        Some(2)
+    } else if is_for(x, minus_zero(mask), set, 3) {
+        Some(3)
+    } else if holds(set, 4) {
+        Some(4)
+    } else {
+        None
     }
-    if is_for(x, minus_zero(mask), set, 3) {
-        return 3;
-    }
-    if holds(set, 4) {
-        return 4;
-    }
-    0
 }
 
-// Uncompressed where a sample is below -2 or above 1, else 0: with the mask taken off, the low bits of 0 and -1 are 0, those of 1 and -2
-// are 1. Where the set holds tool 11, those of its rows are left too: they are below 4.
-fn spread_tool(any: u8, set: u32) -> u32
-    ensures { result ≡ cond (ltb (any % 128) 2) 0 (cond (ltb (any % 128) 4 && tools.holds set 11) 0 1) }
+// Uncompressed where a sample is below -2 or above 1: with the mask taken off, the low bits of 0 and -1 are 0, those of 1 and -2 are 1.
+// Where the set holds tool 11, those of its rows are left too: they are below 4.
+fn spread_tool(any: u8, set: u32) -> Option<u32>
+    ensures { result ≡ cond (ltb (any % 128) 2) None (cond (ltb (any % 128) 4 && tools.holds set 11) None (Some 1)) }
 {
-    if any % 128 < 2 {
-        return 0;
+    let far = any % 128;
+    if far < 2 {
+        None
+    } else if far < 4 && holds(set, 11) {
+        None
+    } else {
+        Some(1)
     }
-    if 4 <= any % 128 {
-        return 1;
-    }
-    if holds(set, 11) { 0 } else { 1 }
 }
 
-// The tool of a frame that the first look settles, else 0. A frame of one value takes one or two octets, and no other form is as
-// short; where no tool of one value is held, a frame with a sample below -2 or above 1 stays uncompressed, as it does where its samples
-// differ.
-fn plain_tool(samples: &[u8], n: usize, l: Spread, mask: u8, set: u32) -> u32
-    requires frame_in { (FrameIn samples.now n) × (is_mask mask ≡ true) }
-    requires spread_is { SpreadIs mask (get_or samples.now 0 0) (take n samples.now) l }
-    ensures { SettledTool mask set (take n samples.now) result }
+// The tool of a frame that the first look settles. A frame of one value takes one or two octets, and no other form is as short; where
+// no tool of one value is held, a frame with a sample below -2 or above 1 stays uncompressed, as it does where its samples differ.
+fn plain_tool(frame: &[u8], l: Spread, mask: u8, set: u32) -> Option<u32>
+    requires frame_in { (FrameIn frame.now) × (is_mask mask ≡ true) }
+    requires spread_is { SpreadIs mask (get_or frame.now 0 0) frame.now l }
+    ensures { SettledTool mask set frame.now result }
 {
     if l.any != l.all {
         return spread_tool(l.any, set);
     }
-    let tool = one_value_tool(samples[0], mask, set);
-    if tool != 0 {
-        return tool;
+    match one_value_tool(frame[0], mask, set) {
+        Some(tool) => Some(tool),
+        None => spread_tool(l.any, set),
     }
-    spread_tool(l.any, set)
 }
 
-// The tool and the bits of its form; or tool 0 where the frame is left, and then whether it is of the two zeros, or of samples from
-// -2 to 1.
+// A frame that is left: of the two zeros; or one that value-location may apply to, of 80 samples or more from -2 to 1; or another.
 #[derive(Clone, Copy, Drop)]
-pub struct Settled {
-    pub tool: u32,
-    pub bits: usize,
-    pub zeros: bool,
-    pub close: bool,
+pub enum Kind {
+    TwoZeros,
+    Near,
+    Other,
+}
+
+// What the look tells: the tool and the bits of its form, or of which kind the frame is that is left.
+#[derive(Clone, Copy, Drop)]
+pub enum Settled {
+    Tool(Choice),
+    Of(Kind),
 }
 
 // The choice for a frame: it is looked at once. With the mask taken off, the low bits of both zeros are 0.
-pub fn choose(samples: &[u8], n: usize, mask: u8, set: u32) -> Settled
-    requires { (FrameIn samples.now n) × (is_mask mask ≡ true) }
-    ensures { Settles mask set (take n samples.now) result }
+pub fn choose(frame: &[u8], mask: u8, set: u32) -> Settled
+    requires { (FrameIn frame.now) × (is_mask mask ≡ true) }
+    ensures { Settles mask set frame.now result }
 {
-    let l = spread_of(samples, n, mask);
-    let tool = plain_tool(samples, n, l, mask, set);
-    Settled {
-        tool: tool,
-        bits: whole_bits(tool, n),
-        zeros: l.any % 128 == 0,
-        close: l.any % 128 < 2,
+    let l = spread_of(frame, mask);
+    match plain_tool(frame, l, mask, set) {
+        Some(tool) => {
+            let bits = whole_bits(tool, frame.len());
+            Settled::Tool(Choice { tool, bits })
+        }
+        None if l.any % 128 == 0 => Settled::Of(Kind::TwoZeros),
+        None if l.any % 128 < 2 && 80 <= frame.len() => Settled::Of(Kind::Near),
+        None => Settled::Of(Kind::Other),
     }
-}
-
-// Whether value-location may apply: it asks for 80 samples, from -2 to 1.
-pub fn is_near(close: bool, n: usize) -> bool
-    ensures { result ≡ close && leb 80 n }
-{
-    if !close {
-        return false;
-    }
-    80 <= n
 }

@@ -6,20 +6,20 @@ use mathlib.Core.Bool.{Bool, true, false, cond}
 use native.Mathlib.Omega.{arith}
 use lib.ListN.{length, take, drop}
 use lib.Dec.{ltb}
-use lib.Seq.{length-take-le}
 use Rattle.rules.specs.Bits.{low_bits, bits_of}
 use Rattle.rules.specs.First.{rice_code}
 use Rattle.rules.specs.Runs.{rice_forms}
 use Rattle.rules.specs.Zeros.{prefix, code_of, flag_of}
 use Rattle.rules.specs.Chooses.{mark_of, best_s, rice_choice, row_number, row_of, located_flag, located_form, form_of}
 use Rattle.rules.specs.Samples.{plus_zero, minus_zero}
-use Rattle.write_scan.specs.Looks.{count_is, FrameIn}
+use Rattle.write_scan.specs.Looks.{count_is}
 use Rattle.write_located.specs.declared.Located.{Located}
 use Rattle.write_zeros.specs.declared.Zeros.{Zeros}
 use Rattle.write_zeros.specs.Rice.{RiceIs}
 use Rattle.write_located.specs.Rows.{LocatedIs}
-use Rattle.write_bits.specs.declared.Pen.{Pen}
+use Rattle.write_bits.specs.declared.pen.Pen.{Pen}
 use Rattle.write_bits.specs.Puts.{pen_bits, Able, Puts, Packed}
+use Rattle.write_scan.specs.declared.row.Row.{Row}
 use Rattle.write_scan.specs.Rows.{RowIs}
 use Rattle.rules.proofs.Words.{low_bits-join}
 use Rattle.rules.proofs.Lent.{drop-further}
@@ -33,17 +33,13 @@ pub bit-of : (b : Bool) → cond b 1 0 < 2
 bit-of true = omega arith
 bit-of false = omega arith
 
-pub cells-length : {samples : List ℕ} {n : ℕ} → FrameIn samples n → length (take n samples) ≡ n
-cells-length {samples} {n} f = length-take-le n samples f.long
-
 -- Rice as planned
-pub rice-ready : {mask n : ℕ} {samples runs : List ℕ} {r : Zeros} → FrameIn samples n → RiceIs mask (take n samples) r runs
-    → RiceReady n r runs
-rice-ready {mask} {n} {samples} f i =
+pub rice-ready : {mask : ℕ} {frame runs : List ℕ} {r : Zeros} → RiceIs mask frame r runs → RiceReady (length frame) r runs
+rice-ready {mask} {frame} i =
     record {
-      mark = rw i.mark (bit-of (ltb (count_is (plus_zero mask) (take n samples)) (count_is (minus_zero mask) (take n samples))));
+      mark = rw i.mark (bit-of (ltb (count_is (plus_zero mask) frame) (count_is (minus_zero mask) frame)));
       from = i.from;
-      to = rw (← (cells-length f)) i.most;
+      to = i.most;
       most = i.to;
       few = i.found.few;
       size = i.found.size;
@@ -60,7 +56,7 @@ module _ (n : ℕ) (s : List ℕ) where
       ∙ ap (λ (S : ℕ). form (length s) (mark_of mask s) S rs) i.best
       ∙ ap (form (length s) (mark_of mask s) (best_s mask (mark_of mask s) s)) i.found.says
 
-  pub binary-form : (mask : ℕ) {row : List ℕ} → length s ≡ n → RowIs (map (flag_of mask 0) s) (n / 40) row
+  pub binary-form : (mask : ℕ) {row : Row} → length s ≡ n → RowIs (map (flag_of mask 0) s) (n / 40) row
       → binary_form n row ≡ form_of mask 5 s
   unfolding form_of
   binary-form mask size words =
@@ -95,7 +91,7 @@ unfolding pen_bits bits_of low_bits
 none-put o p f = rw (f.held, f.at)
 
 pub fresh-able : {o : List ℕ} {p : Pen} {n : ℕ} → Fresh p → n ≤ 8 * length o → Able o p n
-fresh-able f h = record { held = omega (arith, f.held); word = omega (arith, f.word); room = omega (arith, f.held, f.at) }
+fresh-able f h = record { room = omega (arith, f.held, f.at) }
 
 pub packed : {o form o' o'' : List ℕ} {p p' : Pen} {n : ℕ} → Fresh p → Puts o p form o' p' → Packed (pen_bits o' p') o' o'' n
     → Packed form o o'' n

@@ -9,7 +9,7 @@ use native.Mathlib.Nat.{zero-add}
 use borrow.Author.Tests.{ne_eqb, le-leb, lt-leb, eqb-true, eqb-false, leb-true, leb-false}
 use lib.ListN.{length, get_or, take, drop, replicate}
 use lib.ListN.{length-append, length-replicate, replicate-append-replicate, get_or-eq_default, drop_of_length-le}
-use lib.Seq.{drop-cons, length-take-le, get_or-take, take-take}
+use lib.Seq.{drop-cons, length-take-le}
 use lib.Dec.{eqb, leb}
 use Rattle.rules.specs.Bits.{low_bits}
 use Rattle.rules.specs.Runs.{runs_of, rice_form, rice_forms}
@@ -18,7 +18,7 @@ use Rattle.rules.specs.Chooses.{count_of, places_of, numbers_form, method_of, va
 use Rattle.rules.proofs.Octets.{length-low_bits, Below, none, more, below_all, below_at}
 use Rattle.write_runs.proofs.Finding.{runs-common, runs_other}
 use Rattle.write_located.specs.Ways.{FlagsAre}
-use Rattle.write_bits.specs.declared.Pen.{Pen}
+use Rattle.write_bits.specs.declared.pen.Pen.{Pen}
 use Rattle.write_bits.specs.Puts.{Able, Puts}
 use Rattle.write_bits.proofs.Putting.{puts_none, puts_then, puts-as, able-then}
 use Rattle.write_forms.specs.Ways.{places_by, listed_form, marks_form, way_form, WayReady}
@@ -156,19 +156,17 @@ pub way-within : {m d count found : ℕ} (runs : List ℕ) → found ≤ 321 →
 way-within {found = found} runs h long r = omega (arith, r.within, length-take-le found runs (omega arith))
 
 -- the runs that end, and what is open
-module _ (count found : ℕ) (runs : List ℕ) (within : count ≤ found) where
-  pub marks-closed : found ≤ count → found ≤ length runs → rice_forms 0 (take count runs) ≡ marks_form count (take found runs)
-  marks-closed h long =
-      let z : get_or (take found runs) count 0 ≡ 0 = get_or-eq_default (take found runs) 0
-      (omega (arith, length-take-le found runs long)) in
-      rw (take-take count found runs within, z, append-nil)
+module _ (count : ℕ) (runs : List ℕ) where
+  pub marks-closed : length runs ≤ count → rice_forms 0 (take count runs) ≡ marks_form count runs
+  marks-closed h =
+      let z : get_or runs count 0 ≡ 0 = get_or-eq_default runs 0 h in
+      rw (z, append-nil)
 
-  pub marks-open : {v : ℕ} → count < found → v ≡ get_or runs count 0
-      → rice_forms 0 (take count runs) ++ replicate v 0 ≡ marks_form count (take found runs)
-  marks-open h e = rw (take-take count found runs within, get_or-take found runs count 0 h, e)
+  pub marks-open : {v : ℕ} → v ≡ get_or runs count 0 → rice_forms 0 (take count runs) ++ replicate v 0 ≡ marks_form count runs
+  marks-open e = rw e
 
-  pub marks-length : length (rice_forms 0 (take count runs)) + get_or (take found runs) count 0 ≡ length (marks_form count (take found runs))
-  marks-length = rw (take-take count found runs within, length-append, length-replicate)
+  pub marks-length : length (rice_forms 0 (take count runs)) + get_or runs count 0 ≡ length (marks_form count runs)
+  marks-length = rw (length-append, length-replicate)
 
 -- places listed one after the other: what is put, and what is left to put
 pub record ListedTurn (o : List ℕ) (p : Pen) (w : ℕ) (l o' : List ℕ) (p' : Pen) (at j : ℕ) : Type 0 where
@@ -179,41 +177,39 @@ pub record ListedTurn (o : List ℕ) (p : Pen) (w : ℕ) (l o' : List ℕ) (p' :
   pub small : at ≤ 2 ^ w
   pub size : length o' ≡ length o
 
-pub listed_start : {o : List ℕ} {p : Pen} {m : ℕ} (w : ℕ) (l : List ℕ) → Able o p m → ((i : ℕ) → get_or (places_by 0 l) i 0 < 2 ^ w)
+pub listed_start : {o : List ℕ} {p : Pen} (w : ℕ) (l : List ℕ) → ((i : ℕ) → get_or (places_by 0 l) i 0 < 2 ^ w)
     → ListedTurn o p w l o p 0 0
-listed_start w l a f = record { done = []; puts = puts_none a.held a.word; rest = refl; fits = f; small = omega arith; size = refl }
+listed_start w l f = record { done = []; puts = puts_none _ _; rest = refl; fits = f; small = omega arith; size = refl }
 
-module _ {o o' : List ℕ} {p p' : Pen} {at j v : ℕ} (w count : ℕ) (runs : List ℕ) (t : ListedTurn o p w (take count runs) o' p' at j)
-    (h : j < count)
-    (long : count ≤ length runs) (e : v ≡ get_or runs j 0) where
-  next : drop j (take count runs) ≡ v ∷ drop (j + 1) (take count runs)
-  next = rw (drop-cons (take count runs) j 0 (omega (arith, length-take-le count runs long)), get_or-take count runs j 0 h, ← e, add-one j)
+module _ {o o' : List ℕ} {p p' : Pen} {at j v : ℕ} (w : ℕ) (l : List ℕ) (t : ListedTurn o p w l o' p' at j)
+    (h : j < length l) (e : v ≡ get_or l j 0) where
+  next : drop j l ≡ v ∷ drop (j + 1) l
+  next = rw (drop-cons l j 0 h, ← e, add-one j)
 
-  later : places_by at (drop j (take count runs)) ≡ (at + v) ∷ places_by (at + v + 1) (drop (j + 1) (take count runs))
+  later : places_by at (drop j l) ≡ (at + v) ∷ places_by (at + v + 1) (drop (j + 1) l)
   unfolding places_by
   later = rw next
 
   pub listed-fits : at + v < 2 ^ w
   listed-fits = rw later at (t.fits 0)
 
-  parts : t.done ++ (low_bits w (at + v) ++ numbers_form w (places_by (at + v + 1) (drop (j + 1) (take count runs)))) ≡ numbers_form
-      w (places_by 0 (take count runs))
+  parts : t.done ++ (low_bits w (at + v) ++ numbers_form w (places_by (at + v + 1) (drop (j + 1) l))) ≡ numbers_form w (places_by 0 l)
   unfolding numbers_form
   parts = rw later at t.rest
 
-  pub listed-able : Able o p (length (numbers_form w (places_by 0 (take count runs)))) → Able o' p' w
+  pub listed-able : Able o p (length (numbers_form w (places_by 0 l))) → Able o' p' w
   listed-able a =
       let k = sym (ap length parts) ∙ length-append t.done _ in
-      let n = length-append (low_bits w (at + v)) (numbers_form w (places_by (at + v + 1) (drop (j + 1) (take count runs)))) in
+      let n = length-append (low_bits w (at + v)) (numbers_form w (places_by (at + v + 1) (drop (j + 1) l))) in
       able-then w a t.puts t.size (omega (arith, k, n, length-low_bits w (at + v)))
 
   pub listed_then : {o'' : List ℕ} {p'' : Pen} → Puts o' p' (low_bits w (at + v)) o'' p'' → length o'' ≡ length o'
-      → ListedTurn o p w (take count runs) o'' p'' (at + v + 1) (j + 1)
+      → ListedTurn o p w l o'' p'' (at + v + 1) (j + 1)
   listed_then put size =
       record {
         done = t.done ++ low_bits w (at + v);
         puts = puts_then t.puts put;
-        rest = append_assoc t.done (low_bits w (at + v)) (numbers_form w (places_by (at + v + 1) (drop (j + 1) (take count runs)))) ∙ parts;
+        rest = append_assoc t.done (low_bits w (at + v)) (numbers_form w (places_by (at + v + 1) (drop (j + 1) l))) ∙ parts;
         fits = λ i. rw later at (t.fits (suc i));
         small = omega (arith, listed-fits);
         size = size ∙ t.size;

@@ -1,20 +1,18 @@
 -- Laws of forms that are whole octets.
 use Prim.Native.Nat.{ℕ, zero, suc, ◌+◌, ◌≤◌, ◌<◌}
 use mathlib.Core.Path.{◌≡◌, refl, sym, ap, ◌∙◌}
-use mathlib.Core.List.{List, [], ◌∷◌, ◌++◌, append-nil, append_assoc}
+use mathlib.Core.List.{List, [], ◌∷◌, ◌++◌, append-nil}
 use mathlib.Core.Bool.{Bool, true, false, cond}
 use native.Mathlib.Omega.{arith}
-use native.Mathlib.Numerals.{add-one}
 use borrow.Author.Tests.{ne_eqb}
-use lib.ListN.{length, get_or, take, drop, set, replicate, length-set, take-append-drop}
-use lib.Seq.{take-suc, take-suc-set, drop-set-lt}
+use lib.ListN.{length, get_or, take, drop, set, replicate, take-append-drop}
+use lib.Seq.{drop-set-lt}
 use lib.Dec.{eqb}
 use Rattle.rules.specs.Bits.{low_bits, bits_of, octets_for, octets_from, fill_for, pack}
 use Rattle.rules.specs.First.{octet_for}
 use Rattle.rules.specs.Chooses.{form_of}
 use Rattle.rules.proofs.Octets.{length-bits_of, Below, below_all, below-take, octets_from-bits_of}
 use Rattle.write_bits.specs.Puts.{Packed}
-use Rattle.rules.proofs.Lent.{drop-further}
 use Rattle.write_forms.specs.Forms.{whole_octets, Copied}
 
 -- octets are their bits, packed
@@ -37,21 +35,6 @@ whole-packed {o} {o'} {n} l octets size same rest =
       size = omega arith;
       lent = sym (take-append-drop n o') ∙ ap (λ (x : List ℕ). x ++ drop n o') (same ∙ sym (pack-whole b))
           ∙ ap (λ (x : List ℕ). pack (bits_of l) ++ x) rest;
-    }
-
--- a copy behind the first octet, one sample more
-pub copy-none : (s o : List ℕ) → Copied (take 0 s) 0 o o
-copy-none s o = record { says = sym (append-nil _); rest = refl; size = refl }
-
-pub copy-turn : (s o o' : List ℕ) (i : ℕ) → Copied (take i s) i o o' → i < length s → 1 + i < length o
-    → Copied (take (i + 1) s) (i + 1) o (set o' (1 + i) (get_or s i 0))
-copy-turn s o o' i t h room =
-    let e : 1 + (i + 1) ≡ suc (1 + i) = omega arith in
-    record {
-      says = rw (e, take-suc-set o' (1 + i) (get_or s i 0) (omega (arith, t.size)), t.says, add-one i, take-suc s i 0 h, append_assoc);
-      rest = drop-set-lt (1 + (i + 1)) o' (1 + i) (get_or s i 0) (omega arith)
-          ∙ drop-further o' o (1 + i) (1 + (i + 1)) (omega arith) t.rest;
-      size = length-set o' (1 + i) (get_or s i 0) ∙ t.size;
     }
 
 -- the forms of tools 1 to 4, as their octets

@@ -1,11 +1,12 @@
 -- The pieces of a form.
-use Rattle.std.specs.Prelude.{ℕ, ◌+◌, ◌^◌, ◌/◌, ◌≤◌, ◌<◌, ◌≡◌, List, [], ◌∷◌, ◌++◌, cond, length, get_or, take, drop, eqb}
+use Rattle.std.specs.Prelude.{ℕ, ◌+◌, ◌≤◌, ◌<◌, ◌≡◌, List, [], ◌∷◌, ◌++◌, cond, length, get_or, take, drop, eqb}
 use Rattle.rules.specs.Bits.{low_bits}
 use Rattle.rules.specs.Fractional.{first_code, fractional_body}
 use Rattle.rules.specs.Zeros.{prefix, code_of, most_s}
 use Rattle.rules.specs.First.{octet_for, rice_code}
 use Rattle.rules.specs.Runs.{rice_forms}
-use Rattle.write_scan.specs.Rows.{row_bits}
+use Rattle.write_scan.specs.declared.row.Row.{Row}
+use Rattle.write_scan.specs.Rows.{flags_in}
 use Rattle.write_located.specs.declared.Located.{Located}
 use Rattle.write_zeros.specs.declared.Zeros.{Zeros}
 use Rattle.write_forms.specs.Ways.{way_of, WayPlanned}
@@ -57,13 +58,8 @@ abbrev pub plan_form : ℕ → Located → List ℕ → List ℕ → List ℕ �
 plan_form n r a b c = prefix 7 n ++ located_form_of r a b c
 
 -- binary from the row of flags, which are 1 at minus zero
-abbrev pub binary_form : ℕ → List ℕ → List ℕ
-binary_form n row = prefix 5 n ++ row_bits (take (n / 40) row)
-
-pub record RowReady (n : ℕ) (row : List ℕ) : Type 0 where
-  pub few : n ≤ 320
-  pub size : length row ≡ 8
-  pub small : (i : ℕ) → get_or row i 0 < 2 ^ 40
+abbrev pub binary_form : ℕ → Row → List ℕ
+binary_form n row = prefix 5 n ++ flags_in row
 
 -- fractional-bit with row k
 abbrev pub row_form : ℕ → ℕ → ℕ → List ℕ → List ℕ

@@ -8,7 +8,7 @@ use borrow.Author.Tests.{ltb-true, ltb-false, le-leb, lt-leb}
 use lib.Bits.{bit_xor}
 use lib.Dec.{ltb}
 use lib.IntN.{pos, negsuc}
-use lib.ListN.{length, get_or}
+use lib.ListN.{get_or}
 use Rattle.rules.specs.Samples.{signed, sample_of}
 use Rattle.rules.specs.Fractional.{radix, low_at, below_at, digit_for, value_for}
 use Rattle.rules.specs.Fractional.{groups_form_as, place_in, samples_at, fractional_body}
@@ -87,7 +87,6 @@ module _ {mask : ℕ} (l : LawMask mask) (k : ℕ) (h : k < 12) {row : Row} (is 
         each = λ i. rw (← told, is.radix) (each i);
       }
 
-  pub body-told : {n : ℕ} → length s ≡ n
-      → body_in mask row n s ≡ fractional_body mask k s
+  pub body-told : body_in mask row s ≡ fractional_body mask k s
   unfolding groups_form_as
-  body-told size = rw (← told, is.radix, ← size) refl
+  body-told = rw (← told, is.radix) refl

@@ -1,14 +1,17 @@
 -- A row is told by its key.
 use Prim.Native.Nat.{ℕ, suc, ◌+◌, ◌*◌, ◌-◌, ◌≤◌, ◌<◌}
 use mathlib.Core.Path.{◌≡◌, refl, sym, ap, ◌∙◌}
-use mathlib.Core.Bool.{Bool, true, false, cond, ◌&&◌}
+use mathlib.Core.Bool.{Bool, true, false, ◌&&◌}
 use native.Mathlib.Omega.{arith}
 use borrow.Author.Tests.{eqb-true, eq-eqb, ltb-true}
+use mir.Val.{bool_byte}
+use Rattle.std.proofs.Common.{Some, None}
 use lib.Dec.{eqb, ltb}
+use Rattle.write_scan.proofs.Rows.{test_byte}
 use Rattle.rules.proofs.Tests.{and_left, and_right, all_below-at}
 use Rattle.rules.specs.Fractional.{values_at, least_at, greatest_at, minus_at}
-use Rattle.rules.specs.Chooses.{row_or, same_test, is_row_of, row_from}
-use Rattle.write_fractional.specs.Keys.{key_of, row_key}
+use Rattle.rules.specs.Chooses.{same_test, is_row_of, row_from}
+use Rattle.write_fractional.specs.Keys.{key_of, row_key, row_in}
 
 greatest-small : (k : ℕ) → k < 12 → greatest_at k < 256
 unfolding values_at
@@ -40,16 +43,13 @@ pub record Finding (l g : ℕ) (m : Bool) (count k : ℕ) : Type 0 where
   pub says : row_from l g m 0 count ≡ row_from l g m k (count - k)
   pub within : k ≤ count
 
-pub finding-none : (l g : ℕ) (m : Bool) (count : ℕ) → Finding l g m count 0
-finding-none l g m count = record { says = ap (row_from l g m 0) (omega arith); within = omega arith }
-
 module _ {l g : ℕ} {m : Bool} {count k : ℕ} (t : Finding l g m count k) (small : g < 256) (few : count ≤ 12) where
-  pub finding-hit : k < count → row_key k ≡ key_of l g m → k ≡ row_or count (row_from l g m 0 count)
+  pub finding-hit : k < count → row_key k ≡ key_of l g m → Some k ≡ row_in (row_from l g m 0 count)
   unfolding row_from row_key
   finding-hit h e =
       let n : count - k ≡ suc (count - (k + 1)) = omega arith in
       let r = told l g m (least_at k) (greatest_at k) (minus_at k) small (greatest-small k (omega arith)) (sym e) in
-      sym (ap (row_or count) t.says ∙ rw (n, r))
+      sym (ap row_in t.says ∙ rw (n, r))
 
   pub finding-miss : k < count → (row_key k ≡ key_of l g m → ⊥) → Finding l g m count (k + 1)
   unfolding row_from row_key
@@ -58,12 +58,11 @@ module _ {l g : ℕ} {m : Bool} {count k : ℕ} (t : Finding l g m count k) (sma
       let r = untold l g m (least_at k) (greatest_at k) (minus_at k) (is_row_of l g m k) refl (λ z. e (sym z)) in
       record { says = t.says ∙ rw (n, r); within = omega arith }
 
-  pub finding-end : count ≤ k → k ≡ row_or count (row_from l g m 0 count)
+  pub finding-end : count ≤ k → None ≡ row_in (row_from l g m 0 count)
   unfolding row_from
   finding-end h =
       let n : count - k ≡ 0 = omega arith in
-      let e : count ≡ k = omega (arith, t.within) in
-      sym (ap (row_or count) t.says ∙ rw n e)
+      sym (ap row_in t.says ∙ rw n refl)
 
-pub key-told : (a b f l g : ℕ) (m : Bool) → a ≡ l → b ≡ g → f ≡ cond m 1 0 → 512 * a + 2 * b + f ≡ key_of l g m
-key-told a b f l g m x y z = rw (x, y, z)
+pub key-told : {a b f l g : ℕ} (m : Bool) → a ≡ l → b ≡ g → f ≡ bool_byte m → 512 * a + 2 * b + f ≡ key_of l g m
+key-told m x y z = rw (x, y, z, test_byte m)

@@ -1,10 +1,10 @@
 // "Data range reduction" (001, 7.11.2): a frame's row of table 7-28, and the bits that tool 11 needs for it (document 02, R-14).
 
-ghost use Rattle.std.specs.Prelude.{◌≡◌, cond, ◌+◌, ◌*◌, ◌/◌, ◌≤◌, ◌<◌, take};
+ghost use Rattle.std.specs.Prelude.{◌≡◌, ◌+◌, ◌*◌, ◌/◌, ◌≤◌, ◌<◌, length, IfSome};
 ghost use Rattle.rules.specs.Fractional.{row_count, group_of, bits_for, body_bits};
-ghost use Rattle.rules.specs.Chooses.{row_or, row_from, frame_row};
+ghost use Rattle.rules.specs.Chooses.{row_from, frame_row};
 ghost use Rattle.write_scan.specs.Looks.{FrameIn};
-ghost use Rattle.write_fractional.specs.Keys.{row_key};
+ghost use Rattle.write_fractional.specs.Keys.{row_key, row_in};
 
 use law::minus_zero;
 use value_rows::{row_at, row_count};
@@ -32,48 +32,35 @@ fn key_at(k: usize) -> u32
     }
 }
 
-fn wide(x: u8) -> u32
-    ensures { (result ≡ x) × (result < 256) }
-{
-    x as u32
-}
-
-fn flag(b: bool) -> u32
-    ensures { (result ≡ cond b 1 0) × (result < 2) }
-{
-    if b {
-        return 1;
-    }
-    0
-}
-
-// The row of a least, a greatest and whether -1 occurs, of so many; their number where none is.
-fn find_row(least: u8, greatest: u8, minus: bool, count: usize) -> usize
+// The row of a least, a greatest and whether -1 occurs, of the first so many.
+fn find_row(least: u8, greatest: u8, minus: bool, count: usize) -> Option<usize>
     requires { count ≤ 12 }
-    ensures { result ≡ row_or count (row_from least greatest minus 0 count) }
+    ensures row { result ≡ row_in (row_from least greatest minus 0 count) }
+    ensures below { IfSome result (λ k. k < count) }
 {
-    let key = 512 * wide(least) + 2 * wide(greatest) + flag(minus);
-    let mut k = 0;
-    while k < count {
+    let key = 512 * u32::from(least) + 2 * u32::from(greatest) + u32::from(minus);
+    // Of `find` the check doesn't learn that no row before passes.
+    for k in 0..count {
         if key_at(k) == key {
-            return k;
+            return Some(k);
         }
-        k += 1;
     }
-    k
+    None
 }
 
-// The row of a frame; the number of its length's rows where it has none.
-pub fn row_of(samples: &[u8], n: usize, mask: u8) -> usize
-    requires { (FrameIn samples.now n) × (mask < 128) }
-    ensures { result ≡ row_or (row_count n) (frame_row mask (take n samples.now)) }
+// The row of a frame, where it has one. -1 is looked for by counting, sixteen samples to a register.
+pub fn row_of(frame: &[u8], mask: u8) -> Option<usize>
+    requires { FrameIn frame.now × (mask < 128) }
+    ensures row { result ≡ row_in (frame_row mask frame.now) }
+    ensures below { IfSome result (λ k. k < row_count (length frame.now)) }
 {
-    let e = extent_of(samples, n, mask);
-    let minus = count_of(samples, n, minus_zero(mask)) != 0;
-    find_row(e.least, e.greatest, minus, row_count(n))
+    let extent = extent_of(frame, mask);
+    let minus = count_of(frame, minus_zero(mask)) != 0;
+    find_row(extent.least, extent.greatest, minus, row_count(frame.len()))
 }
 
 // Table 7-27: the bits of the body of a row of so many values.
+// R' stays a number, since V is reckoned with it: an enum would be turned into it again.
 fn body_bits(r: usize, n: usize) -> usize
     requires { (2 ≤ r) × (r ≤ 6) × (n ≤ 320) }
     ensures { result ≡ bits_for r * (n / group_of r) }

@@ -6,7 +6,7 @@ use mathlib.Core.Bool.{cond, ◌&&◌}
 use native.Mathlib.Omega.{arith}
 use native.Mathlib.Nat.{zero-add, zero-mul, suc-mul, mul-le-mul}
 use borrow.Author.Tests.{ne_eqb, lt-ltb, le-ltb, le-leb, lt-leb}
-use lib.ListN.{length, take, replicate, length-append}
+use lib.ListN.{length, replicate, length-append}
 use lib.Dec.{eqb, leb, ltb}
 use Rattle.rules.specs.Runs.{runs_of, runs_form}
 use Rattle.rules.specs.Located.{width_of}
@@ -105,10 +105,10 @@ module _ {flags : List ℕ} {count : ℕ} (ones : count ≡ count_of (λ f. eqb 
         record { method = m; bits = rw (value-length flags m, form) (omega arith); most = omega arith; small = omega arith }
 
 -- a way that was made of what it says
-pub way-told : {runs : List ℕ} {found d count m bits : ℕ}
-    → ((flags : List ℕ) → runs_of 0 flags ≡ take found runs → FlagsAre flags d count
-    → WayIs flags (record { method = m; bits = bits; d = d; count = count; runs = found }))
-    → {r : Way} → r ≡ record { method = m; bits = bits; d = d; count = count; runs = found } → WayFor runs found d count r
+pub way-told : {runs : List ℕ} {d count m bits : ℕ}
+    → ((flags : List ℕ) → runs_of 0 flags ≡ runs → FlagsAre flags d count
+    → WayIs flags (record { method = m; bits = bits; d = d; count = count; runs = length runs }))
+    → {r : Way} → r ≡ record { method = m; bits = bits; d = d; count = count; runs = length runs } → WayFor runs d count r
 way-told f e = rw e (record { way = f; places = refl; times = refl; found-runs = refl })
 
 pub listed_small : {n w : ℕ} → n ≤ 4 → w ≤ 9 → n * w ≤ 36

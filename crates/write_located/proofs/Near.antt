@@ -7,8 +7,7 @@ use mathlib.Core.Bool.{Bool, true, false, cond, ◌&&◌, ◌||◌}
 use native.Mathlib.Omega.{arith}
 use native.Mathlib.Nat.{zero-add}
 use borrow.Author.Tests.{eqb-true, eqb-false, eq-eqb, ne_eqb, leb-false}
-use lib.ListN.{length, take}
-use lib.Seq.{length-take-le}
+use lib.ListN.{length}
 use lib.Dec.{eqb, leb, ltb}
 use lib.IntN.{ℤ, pos, negsuc}
 use Rattle.rules.specs.Samples.{signed, sample_of, plus_zero, minus_zero, on_line}
@@ -216,8 +215,8 @@ greatest-of a b c d some = go (eqb a 0) refl (eqb b 0) refl (eqb c 0) refl (eqb 
 pub counted : {x y r : ℕ} (s : List ℕ) → r ≡ count_is x s → x ≡ y → r ≡ count_is y s
 counted s e f = e ∙ ap (λ (k : ℕ). count_is k s) f
 
-pub count_fits : {n r : ℕ} (x : ℕ) (samples : List ℕ) → n ≤ length samples → r ≡ count_is x (take n samples) → r ≤ n
-count_fits {n} x samples long e = omega (arith, count-le (λ y. eqb y x) (take n samples), length-take-le n samples long)
+pub count_fits : {r : ℕ} (x : ℕ) (frame : List ℕ) → r ≡ count_is x frame → r ≤ length frame
+count_fits x frame e = omega (arith, e, count-le (λ y. eqb y x) frame)
 
 -- what is none of the three is 0
 pub tallied : {mask : ℕ} {s : List ℕ} {t : Tally} → is_mask mask ≡ true → Below 256 s → near (least_of mask s) (greatest_of mask s) ≡ true

@@ -4,16 +4,17 @@ use mathlib.Core.Path.{◌≡◌, refl, sym, ap, ◌∙◌}
 use mathlib.Core.List.{List, [], ◌∷◌, map}
 use mathlib.Core.Bool.{Bool, true, false, cond, ◌&&◌}
 use native.Mathlib.Omega.{arith}
-use borrow.Author.Tests.{ltb-true, lt-ltb, eqb-true, leb-true, leb-false, le-leb, lt-leb}
+use borrow.Author.Tests.{eqb-true, leb-true, leb-false, le-leb, lt-leb}
+use Rattle.std.proofs.Common.{Option, Some, None, is_some}
 use lib.ListN.{length, take, length-append}
-use lib.Dec.{eqb, leb, ltb}
+use lib.Dec.{eqb, leb}
 use lib.IntN.{pos, negsuc}
 use Rattle.rules.specs.Samples.{sample_of, plus_zero, minus_zero, on_line}
 use Rattle.rules.specs.Located.{case_of, values_of}
-use Rattle.rules.specs.Chooses.{none as no_row, row as the_row, has_row, row_number, row_or, is_row, row_of, located_flag, located_form}
+use Rattle.rules.specs.Chooses.{Row, none as no_row, row as the_row, has_row, row_number, is_row, row_of, located_flag, located_form}
 use Rattle.rules.specs.Chooses.{applies, values_form, least_of, greatest_of}
 use Rattle.rules.proofs.Octets.{length-low_bits}
-use Rattle.rules.proofs.FrameRow.{where-row, below-past, number-or, located-row, located-low}
+use Rattle.rules.proofs.FrameRow.{where-row, located-row, located-low}
 use Rattle.rules.proofs.Signed.{LawMask}
 use Rattle.rules.proofs.Tests.{and_left, and_right}
 use Rattle.write_located.specs.declared.Tally.{Tally}
@@ -21,7 +22,7 @@ use Rattle.write_located.specs.declared.Value.{Value}
 use Rattle.write_located.specs.declared.Values.{Values}
 use Rattle.write_located.specs.declared.Ways.{Ways}
 use Rattle.write_located.specs.Ways.{ValueIs, InTurn, WaysAre}
-use Rattle.write_located.specs.Rows.{least_by, greatest_by, row_by, Tallied, samples_of, only_of, two, three}
+use Rattle.write_located.specs.Rows.{least_by, greatest_by, row_by, row_for, Tallied, samples_of, only_of, two, three}
 use Rattle.write_located.specs.Rows.{values_by, one_in, minus_in, twos_in, values_for, values_in, LocatedIs}
 use Rattle.write_located.proofs.Near.{apart}
 
@@ -33,18 +34,36 @@ rows_fit mask s h =
     and_right (eqb (least_of mask s) (on_line (case_of c).least) && eqb (greatest_of mask s) (on_line (case_of c).greatest))
     (leb (case_of c).from (length s)) e)) h
 
--- the row as one number
-as_number : (a b c d : Bool)
-    → cond a 0 (cond b 1 (cond c 2 (cond d 3 4))) ≡ row_or 4
+-- the row, if there is one
+abbrev found_row : Row → Option ℕ
+found_row no_row = None
+found_row (the_row k) = Some k
+
+as_found : (a b c d : Bool)
+    → cond a (Some 0) (cond b (Some 1) (cond c (Some 2) (cond d (Some 3) None))) ≡ found_row
     (cond a (the_row 0) (cond b (the_row 1) (cond c (the_row 2) (cond d (the_row 3) no_row))))
-as_number true b c d = refl
-as_number false true c d = refl
-as_number false false true d = refl
-as_number false false false true = refl
-as_number false false false false = refl
+as_found true b c d = refl
+as_found false true c d = refl
+as_found false false true d = refl
+as_found false false false true = refl
+as_found false false false false = refl
+
+has_found : (r : Row) → is_some (found_row r) ≡ has_row r
+has_found no_row = refl
+has_found (the_row k) = refl
+
+number_found : (r : Row) (k : ℕ) → Some k ≡ found_row r → k ≡ row_number r
+number_found no_row k e = cc
+number_found (the_row j) k e = cc
+
+some_apart : (j k : ℕ) → (j ≡ k → ⊥) → Some j ≡ Some k → ⊥
+some_apart j k n e = n cc
+
+none_apart : (k : ℕ) → ◌≡◌ {A = Option ℕ} None (Some k) → ⊥
+none_apart k e = cc
 
 -- row 2 has no 1 and some -2; row 3 has nothing below 0
-row-two : (least greatest n : ℕ) → row_by least greatest n ≡ 2 → (least ≡ 126) × (greatest ≡ 128)
+row-two : (least greatest n : ℕ) → row_by least greatest n ≡ Some 2 → (least ≡ 126) × (greatest ≡ 128)
 unfolding row_by
 row-two l g n h =
     let e = go (eqb l 126 && eqb g 129 && leb 240 n) (eqb l 127 && eqb g 129 && leb 80 n) (eqb l 126 && eqb g 128 && leb 80 n)
@@ -52,26 +71,26 @@ row-two l g n h =
     let f = and_left (eqb l 126 && eqb g 128) (leb 80 n) e in
     (eqb-true l 126 (and_left (eqb l 126) (eqb g 128) f), eqb-true g 128 (and_right (eqb l 126) (eqb g 128) f))
   where
-    go : (a b c d : Bool) → ◌≡◌ {A = ℕ} (cond a 0 (cond b 1 (cond c 2 (cond d 3 4)))) 2 → c ≡ true
-    go true b c d h = absurd (omega arith)
-    go false true c d h = absurd (omega arith)
+    go : (a b c d : Bool) → ◌≡◌ {A = Option ℕ} (cond a (Some 0) (cond b (Some 1) (cond c (Some 2) (cond d (Some 3) None)))) (Some 2) → c ≡ true
+    go true b c d h = absurd (some_apart 0 _ (λ z. omega arith) h)
+    go false true c d h = absurd (some_apart 1 _ (λ z. omega arith) h)
     go false false true d h = refl
-    go false false false true h = absurd (omega arith)
-    go false false false false h = absurd (omega arith)
+    go false false false true h = absurd (some_apart 3 _ (λ z. omega arith) h)
+    go false false false false h = absurd (none_apart _ h)
 
-row-three : (least greatest n : ℕ) → row_by least greatest n ≡ 3 → least ≡ 128
+row-three : (least greatest n : ℕ) → row_by least greatest n ≡ Some 3 → least ≡ 128
 unfolding row_by
 row-three l g n h =
     let e = go (eqb l 126 && eqb g 129 && leb 240 n) (eqb l 127 && eqb g 129 && leb 80 n) (eqb l 126 && eqb g 128 && leb 80 n)
     (eqb l 128 && eqb g 129 && leb 80 n) h in
     eqb-true l 128 (and_left (eqb l 128) (eqb g 129) (and_left (eqb l 128 && eqb g 129) (leb 80 n) e))
   where
-    go : (a b c d : Bool) → ◌≡◌ {A = ℕ} (cond a 0 (cond b 1 (cond c 2 (cond d 3 4)))) 3 → d ≡ true
-    go true b c d h = absurd (omega arith)
-    go false true c d h = absurd (omega arith)
-    go false false true d h = absurd (omega arith)
+    go : (a b c d : Bool) → ◌≡◌ {A = Option ℕ} (cond a (Some 0) (cond b (Some 1) (cond c (Some 2) (cond d (Some 3) None)))) (Some 3) → d ≡ true
+    go true b c d h = absurd (some_apart 0 _ (λ z. omega arith) h)
+    go false true c d h = absurd (some_apart 1 _ (λ z. omega arith) h)
+    go false false true d h = absurd (some_apart 2 _ (λ z. omega arith) h)
     go false false false true h = refl
-    go false false false false h = absurd (omega arith)
+    go false false false false h = absurd (none_apart _ h)
 
 least-two : (twos minus plus : ℕ) → least_by twos minus plus ≡ 126 → twos ≡ 0 → ⊥
 unfolding least_by
@@ -261,24 +280,34 @@ module _ {mask : ℕ} {s : List ℕ} {t : Tally} (tally : Tallied mask s t) wher
     pub turn-of : {plus : ℕ} {v : Values} (row flag : ℕ) → plus ≡ plus_zero mask → v ≡ values_for mask t row flag → InTurn plus s v
     turn-of row flag e f = rw (e, f) (in-turn row flag)
 
+  row-found : {n : ℕ} → length s ≡ n → row_for t n ≡ found_row (row_of mask s)
+  unfolding row_by row_of case_of
+  row-found size =
+      rw (tally.least, tally.greatest, ← size)
+      (as_found (is_row mask s 0) (is_row mask s 1) (is_row mask s 2) (is_row mask s 3))
+
+  -- no row, or one
+  pub row-none : {n : ℕ} → length s ≡ n → row_for t n ≡ None → has_row (row_of mask s) ≡ false
+  row-none size e = sym (has_found (row_of mask s)) ∙ ap is_some (sym (row-found size) ∙ e)
+
   module _ {n : ℕ} (size : length s ≡ n) {at : ℕ}
-      (found : at ≡ row_by (least_by t.twos t.minus t.plus) (greatest_by t.one t.plus t.minus) n) where
-    pub row_is : at ≡ row_or 4 (row_of mask s)
-    unfolding row_by row_of case_of
-    row_is =
-        found ∙ rw (tally.least, tally.greatest, ← size)
-        (as_number (is_row mask s 0) (is_row mask s 1) (is_row mask s 2) (is_row mask s 3))
+      (found : Some at ≡ row_for t n) where
+    row_is : Some at ≡ found_row (row_of mask s)
+    row_is = found ∙ row-found size
 
-    pub row_has : ltb at 4 ≡ has_row (row_of mask s)
-    row_has = ap (λ (k : ℕ). ltb k 4) row_is ∙ below-past 4 (row_of mask s) (located-low mask s)
+    has_it : has_row (row_of mask s) ≡ true
+    has_it = sym (ap is_some row_is ∙ has_found (row_of mask s))
 
-    row_number_lem : at < 4 → at ≡ row_number (row_of mask s)
-    row_number_lem h = row_is ∙ sym (number-or 4 (row_of mask s) (omega (arith, row_is)))
+    number_is : at ≡ row_number (row_of mask s)
+    number_is = number_found (row_of mask s) at row_is
+
+    low : at < 4
+    low = rw number_is (where-row (λ k. k < 4) (row_of mask s) (located-low mask s) has_it)
 
     -- rows 2 and 3 have values for one flag only, and that is the one
     flag-two : at ≡ 2 → ◌≡◌ {A = ℕ} (cond (leb (t.minus + t.twos) t.one) 1 0) 0
     flag-two e =
-        let i = row-two _ _ n (sym found ∙ e) in
+        let i = row-two _ _ n (sym found ∙ ap Some e) in
         let some : t.twos ≡ 0 → ⊥ = least-two _ _ _ i.0 in
         let none : t.one ≡ 0 = greatest-zero _ _ _ i.1 in
         let more : 1 ≤ t.twos = positive t.twos some in
@@ -290,61 +319,55 @@ module _ {mask : ℕ} {s : List ℕ} {t : Tally} (tally : Tallied mask s t) wher
 
     flag-three : at ≡ 3 → ◌≡◌ {A = ℕ} (cond (leb (t.minus + t.twos) t.one) 1 0) 1
     flag-three e =
-        let i = least_zero _ _ _ (row-three _ _ n (sym found ∙ e)) in
+        let i = least_zero _ _ _ (row-three _ _ n (sym found ∙ ap Some e)) in
         ap (λ (b : Bool). cond {A = ℕ} b 1 0) (le-leb (t.minus + t.twos) t.one (omega (arith, i.0, i.1)))
 
-    module _ {a : Bool} (tested : a
-        ≡ (leb 80 n && ltb at 4 && leb t.one t.plus && leb t.minus t.plus && leb t.twos t.plus)) where
-      pub applied-is : a ≡ applies mask 7 s
-      unfolding applies
-      applied-is = tested ∙ rw (row_has, tally.one, tally.plus, tally.minus, tally.twos, ← size)
+    pub row-has : has_row (row_of mask s) ≡ true
+    row-has = has_it
 
-      pub row_low : a ≡ true → at < 4
-      row_low e =
-          ltb-true at 4
-          (and_right (leb 80 n) (ltb at 4)
-          (and_left _ (leb t.one t.plus)
-          (and_left _ (leb t.minus t.plus) (and_left _ (leb t.twos t.plus) (sym tested ∙ e)))))
+    pub applied-is : {a : Bool} → a ≡ (leb t.one t.plus && leb t.minus t.plus && leb t.twos t.plus) → 80 ≤ n → a ≡ applies mask 7 s
+    unfolding applies
+    applied-is tested h =
+        tested ∙ rw (le-leb 80 (length s) (omega (arith, size)), has_it, tally.one, tally.plus, tally.minus, tally.twos)
 
-      -- the values, in the flag's order
-      pub values-say : {flag : ℕ} → a ≡ true → flag ≡ cond (leb (t.minus + t.twos) t.one) 1 0
-          → samples_of (values_for mask t at flag) ≡ values_in mask s
-      unfolding values_by values_of case_of
-      values-say {flag} e f =
-          let fit = rows_fit mask s (sym row_has ∙ lt-ltb at 4 (row_low e)) in
-          said mask t at flag (row_low e) (λ z. f ∙ flag-two z) (λ z. f ∙ flag-three z)
-          ∙ rw (row_number_lem (row_low e), f ∙ flag_is, fit)
+    -- the values, in the flag's order
+    pub values-say : {flag : ℕ} → flag ≡ cond (leb (t.minus + t.twos) t.one) 1 0
+        → samples_of (values_for mask t at flag) ≡ values_in mask s
+    unfolding values_by values_of case_of
+    values-say {flag} f =
+        let fit = rows_fit mask s has_it in
+        said mask t at flag low (λ z. f ∙ flag-two z) (λ z. f ∙ flag-three z) ∙ rw (number_is, f ∙ flag_is, fit)
 
-      -- and all that is written
-      pub located-is : {flag bits plus : ℕ} {x y z : List ℕ} {v : Values} {w : Ways} → a ≡ true
-          → flag ≡ cond (leb (t.minus + t.twos) t.one) 1 0 → flag < 2
-          → v ≡ values_for mask t at flag → InTurn plus s v → WaysAre s v w x y z
-          → bits ≡ 11 + (w.first.bits + w.second.bits + w.third.bits) → LocatedIs mask s (record {
-            bits = bits;
-            row = at;
-            flag = flag;
-            count = v.count;
-            first = w.first;
-            second = w.second;
-            third = w.third;
-          }) x y z
-      located-is {v = v} on f mark told turn ways sum =
-          let says : samples_of v ≡ values_in mask s = ap samples_of told ∙ values-say on f in
-          let k = ways-small ways in
-          record {
-            x = v.first.sample;
-            y = v.second.sample;
-            z = v.third.sample;
-            row = row_number_lem (row_low on);
-            low = row_low on;
-            flag = f ∙ flag_is;
-            mark = mark;
-            some = turn.some;
-            few = turn.few;
-            values = sym says;
-            first = ways.first;
-            second = ways.second;
-            third = ways.third;
-            bits = sum ∙ located-length mask turn.some turn.few says ways;
-            small = omega (arith, sum, k.0, k.1.0, k.1.1);
-          }
+    -- and all that is written
+    pub located-is : {flag bits plus : ℕ} {x y z : List ℕ} {v : Values} {w : Ways}
+        → flag ≡ cond (leb (t.minus + t.twos) t.one) 1 0 → flag < 2
+        → v ≡ values_for mask t at flag → InTurn plus s v → WaysAre s v w x y z
+        → bits ≡ 11 + (w.first.bits + w.second.bits + w.third.bits) → LocatedIs mask s (record {
+          bits = bits;
+          row = at;
+          flag = flag;
+          count = v.count;
+          first = w.first;
+          second = w.second;
+          third = w.third;
+        }) x y z
+    located-is {v = v} f mark told turn ways sum =
+        let says : samples_of v ≡ values_in mask s = ap samples_of told ∙ values-say f in
+        let k = ways-small ways in
+        record {
+          x = v.first.sample;
+          y = v.second.sample;
+          z = v.third.sample;
+          row = number_is;
+          low = low;
+          flag = f ∙ flag_is;
+          mark = mark;
+          some = turn.some;
+          few = turn.few;
+          values = sym says;
+          first = ways.first;
+          second = ways.second;
+          third = ways.third;
+          bits = sum ∙ located-length mask turn.some turn.few says ways;
+          small = omega (arith, sum, k.0, k.1.0, k.1.1);
+        }

@@ -1,11 +1,12 @@
 -- Laws of values in turn, each among the places that those before it left.
-use Prim.Native.Nat.{ℕ, zero, suc, ◌+◌, ◌*◌, ◌-◌, ◌≤◌, ◌<◌}
-use mathlib.Core.Path.{◌≡◌, refl, sym, ap, ◌∙◌}
+use Prim.Native.Nat.{ℕ, zero, suc, ◌+◌, ◌-◌, ◌≤◌, ◌<◌}
+use mathlib.Core.Path.{◌≡◌, refl, sym, ◌∙◌}
 use mathlib.Core.List.{List, [], ◌∷◌}
 use mathlib.Core.Bool.{Bool, true, false, cond}
 use native.Mathlib.Omega.{arith}
 use borrow.Author.Tests.{eqb-true, ne_eqb, le-leb, lt-leb}
 use lib.ListN.{length, get_or, take, length-map}
+use lib.Seq.{length-take-le}
 use lib.Dec.{eqb, leb}
 use Rattle.rules.specs.Chooses.{count_of, flags_for, without}
 use Rattle.write_runs.specs.declared.Found.{Found}
@@ -56,18 +57,14 @@ flagged x s size most e =
     record { size = length-map s (λ y. cond (eqb y x) 1 0) ∙ size; most = most; bits = flags-small x s; ones = e ∙ sym (flags-count x s) }
 
 way-with : {flags runs : List ℕ} {d count found : ℕ} {w : Way} → RunsAre flags found runs → FlagsAre flags d count
-    → WayFor runs found d count w → WayOf flags w runs
-way-with {flags} {runs} r f w =
+    → WayFor (take found runs) d count w → WayOf flags w runs
+way-with {flags} {runs} {found = found} r f w =
+    let size : length (take found runs) ≡ found = length-take-le found runs (omega (arith, r.few, r.size)) in
     record {
       way = w.way flags (sym r.says) f;
       flagged = rw (w.places, w.times) f;
-      found = rw w.found-runs r;
+      found = rw (w.found-runs ∙ size) r;
     }
-
--- what is found in whole words is found in the samples
-pub found-whole : {v : Sought} {n : ℕ} {a b c : List ℕ} {r : Found} (samples : List ℕ) (k : ℕ) → 40 * k ≡ n
-    → FoundIs v (take (40 * k) samples) r a b c → FoundIs v (take n samples) r a b c
-found-whole samples k e f = rw (ap (λ (m : ℕ). take m samples) e) at f
 
 -- the samples of values, to be found
 abbrev pub sought : ℕ → Values → Sought
@@ -91,9 +88,9 @@ module _ {plus n : ℕ} {s a b c : List ℕ} {v : Values} {found : Found} (size 
   last-size : 2 ≤ v.count → length last ≡ n - v.first.times - v.second.times
   last-size h = omega (arith, without-count v.second.sample left, left-size, second-count h)
 
-  pub ways-are : {r : Ways} → WayFor a found.first n v.first.times r.first
-      → WayIn (leb 2 v.count) b found.second (n - v.first.times) v.second.times r.second
-      → WayIn (leb 3 v.count) c found.third (n - v.first.times - v.second.times) v.third.times r.third
+  pub ways-are : {r : Ways} → WayFor (take found.first a) n v.first.times r.first
+      → WayIn (leb 2 v.count) (take found.second b) (n - v.first.times) v.second.times r.second
+      → WayIn (leb 3 v.count) (take found.third c) (n - v.first.times - v.second.times) v.third.times r.third
       → WaysAre s v r a b c
   ways-are w₁ w₂ w₃ =
       record {

@@ -1,5 +1,5 @@
 -- What value-location would write, where it applies.
-use Rattle.std.specs.Prelude.{ℕ, ◌+◌, ◌≤◌, ◌<◌, ◌≡◌, List, [], ◌∷◌, map, cond, ◌&&◌, length, take, eqb, leb, pos, negsuc}
+use Rattle.std.specs.Prelude.{ℕ, ◌+◌, ◌≤◌, ◌<◌, ◌≡◌, List, [], ◌∷◌, Option, Some, None, map, cond, ◌&&◌, length, take, eqb, leb, pos, negsuc}
 use Rattle.rules.specs.Samples.{sample_of, plus_zero, minus_zero}
 use Rattle.rules.specs.Located.{values_of}
 use Rattle.rules.specs.Chooses.{flags_for, without, least_of, greatest_of, above, below, row_number, row_of, located_flag, located_form}
@@ -30,15 +30,15 @@ pub record Tallied (mask : ℕ) (s : List ℕ) (t : Tally) : Type 0 where
   pub below : t.minus + t.twos ≡ below mask s
 
 -- the row by least and greatest on the line
-unfoldable pub row_by : ℕ → ℕ → ℕ → ℕ
+unfoldable pub row_by : ℕ → ℕ → ℕ → Option ℕ
 row_by least greatest n =
-    cond (eqb least 126 && eqb greatest 129 && leb 240 n) 0
-    (cond (eqb least 127 && eqb greatest 129 && leb 80 n) 1
-    (cond (eqb least 126 && eqb greatest 128 && leb 80 n) 2
-    (cond (eqb least 128 && eqb greatest 129 && leb 80 n) 3 4)))
+    cond (eqb least 126 && eqb greatest 129 && leb 240 n) (Some 0)
+    (cond (eqb least 127 && eqb greatest 129 && leb 80 n) (Some 1)
+    (cond (eqb least 126 && eqb greatest 128 && leb 80 n) (Some 2)
+    (cond (eqb least 128 && eqb greatest 129 && leb 80 n) (Some 3) None)))
 
 -- the row of a tally
-abbrev pub row_for : Tally → ℕ → ℕ
+abbrev pub row_for : Tally → ℕ → Option ℕ
 row_for t n = row_by (least_by t.twos t.minus t.plus) (greatest_by t.one t.plus t.minus) n
 
 -- the values of a row in the order of the flag; rows 2 and 3 have theirs for one flag only

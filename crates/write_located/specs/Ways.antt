@@ -1,5 +1,5 @@
 -- How a value's places would be written.
-use Rattle.std.specs.Prelude.{ℕ, ◌+◌, ◌≤◌, ◌<◌, ◌≡◌, List, Bool, true, false, length, get_or, take, eqb}
+use Rattle.std.specs.Prelude.{ℕ, ◌+◌, ◌≤◌, ◌<◌, ◌≡◌, List, Bool, true, false, length, get_or, eqb}
 use Rattle.rules.specs.Runs.{runs_of}
 use Rattle.rules.specs.Chooses.{count_of, method_of, value_form, flags_for, without}
 use Rattle.write_scan.specs.Looks.{count_is}
@@ -23,15 +23,15 @@ pub record WayIs (flags : List ℕ) (r : Way) : Type 0 where
   pub small : r.bits ≤ 200000000
 
 -- the way of whatever d flags have these runs, so many of them 1
-pub record WayFor (runs : List ℕ) (found d count : ℕ) (r : Way) : Type 0 where
-  pub way : (flags : List ℕ) → runs_of 0 flags ≡ take found runs → FlagsAre flags d count → WayIs flags r
+pub record WayFor (runs : List ℕ) (d count : ℕ) (r : Way) : Type 0 where
+  pub way : (flags : List ℕ) → runs_of 0 flags ≡ runs → FlagsAre flags d count → WayIs flags r
   pub places : r.d ≡ d
   pub times : r.count ≡ count
-  pub found-runs : r.runs ≡ found
+  pub found-runs : r.runs ≡ length runs
 
 -- the same of a value that a row may lack
-pub record WayIn (has : Bool) (runs : List ℕ) (found d count : ℕ) (r : Way) : Type 0 where
-  pub yes : has ≡ true → WayFor runs found d count r
+pub record WayIn (has : Bool) (runs : List ℕ) (d count : ℕ) (r : Way) : Type 0 where
+  pub yes : has ≡ true → WayFor runs d count r
   pub no : has ≡ false → r.bits ≡ 0
 
 -- the way of these flags, with their runs

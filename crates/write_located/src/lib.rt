@@ -1,12 +1,12 @@
 // Value-location: whether it applies to a frame, and what it would write: the row, the flag, and the values with their ways.
 #![tactic(auto)]
 
-ghost use Rattle.std.specs.Prelude.{◌≡◌, true, false, cond, ◌&&◌, ◌+◌, ◌*◌, ◌/◌, ◌%◌, ◌≤◌, ◌<◌, length, take, eqb, leb, ltb};
-ghost use Rattle.rules.specs.Tools as tools;
+ghost use Rattle.std.specs.Prelude.{◌≡◌, true, cond, ◌&&◌, ◌+◌, ◌%◌, ◌≤◌, ◌<◌, length, Some, leb};
 ghost use Rattle.rules.specs.Chooses.{least_of, greatest_of, applies};
 ghost use Rattle.write_scan.specs.Looks.{near, is_mask, FrameIn};
 ghost use Rattle.write_located.specs.Ways.{WayFor, WayIn, InTurn, WaysAre};
-ghost use Rattle.write_located.specs.Rows.{least_by, greatest_by, row_for, Tallied, only_of, values_by, values_for, LocatedIs};
+ghost use Rattle.write_located.specs.Rows.{least_by, greatest_by, row_for, Tallied, again, only_of, two, three};
+ghost use Rattle.write_located.specs.Rows.{values_by, values_for, LocatedIs};
 
 use law::{minus_zero, plus_zero, sample_of};
 use write_measure::{least_s, width_of};
@@ -14,6 +14,7 @@ use write_runs::{Sought, found_in};
 use write_scan::count_of;
 
 // How a value is written: its method, all its bits with the method's three, its D places, how often it occurs, and how many runs it has.
+// The method stays the paper's number, 000 to 111: those three bits are put, and of runs the number is S.
 #[derive(Clone, Copy, Drop)]
 pub struct Way {
     pub method: u8,
@@ -23,41 +24,35 @@ pub struct Way {
     pub runs: usize,
 }
 
-// A way, by its parts.
-pub fn way_by(method: u8, bits: usize, d: usize, count: usize, runs: usize) -> Way
-    ensures { result ≡ record { method = method; bits = bits; d = d; count = count; runs = runs } }
-{
-    Way {
-        method: method,
-        bits: bits,
-        d: d,
-        count: count,
-        runs: runs,
-    }
-}
-
-fn narrow(x: usize) -> u8
-    requires { x < 256 }
-    ensures { result ≡ x }
-{
-    x as u8
-}
-
 // "101 if it doesn't occur; 000 if L exceeds D; else 111 if it occurs at most 4 times and L exceeds count times
 // ceil(log2 D) plus 2; else runs". The runs are those of the value's D flags.
-fn way_of(runs: &[u16; 321], found: usize, d: usize, count: usize) -> Way
-    requires { (found ≤ 321) × ((found ≤ length runs.now) × (d ≤ 320)) }
-    ensures { WayFor runs.now found d count result }
+fn way_of(runs: &[u16], d: usize, count: usize) -> Way
+    requires { (length runs.now ≤ 321) × (d ≤ 320) }
+    ensures { WayFor runs.now d count result }
 {
+    let absent = Way {
+        method: 5,
+        bits: 3,
+        d,
+        count,
+        runs: runs.len(),
+    };
     if count == 0 {
-        return way_by(5, 3, d, count, found);
+        return absent;
     }
-    let none = [0u8; 10];
-    let least = least_s(runs, found, &none, 4);
+    let least = least_s(runs, &[0; 10], 4);
     if d < least.bits {
-        return way_by(0, 3 + d, d, count, found);
+        return Way {
+            method: 0,
+            bits: 3 + d,
+            ..absent
+        };
     }
-    let by_runs = way_by(narrow(least.s), 3 + least.bits, d, count, found);
+    let by_runs = Way {
+        method: least.s as u8,
+        bits: 3 + least.bits,
+        ..absent
+    };
     if 4 < count {
         return by_runs;
     }
@@ -65,18 +60,29 @@ fn way_of(runs: &[u16; 321], found: usize, d: usize, count: usize) -> Way
     if least.bits <= listed {
         return by_runs;
     }
-    way_by(7, 3 + listed, d, count, found)
+    Way {
+        method: 7,
+        bits: 3 + listed,
+        ..absent
+    }
 }
 
 // The same of a value that the row may lack: one that it lacks has no bits.
-fn way_if(has: bool, runs: &[u16; 321], found: usize, d: usize, count: usize) -> Way
-    requires { (found ≤ 321) × ((found ≤ length runs.now) × (d ≤ 320)) }
-    ensures { WayIn has runs.now found d count result }
+fn way_if(has: bool, runs: &[u16], d: usize, count: usize) -> Way
+    requires { (length runs.now ≤ 321) × (d ≤ 320) }
+    ensures { WayIn has runs.now d count result }
 {
-    if !has {
-        return way_by(5, 0, d, count, found);
+    if has {
+        way_of(runs, d, count)
+    } else {
+        Way {
+            method: 5,
+            bits: 0,
+            d,
+            count,
+            runs: runs.len(),
+        }
     }
-    way_of(runs, found, d, count)
 }
 
 // How many samples are 0, 1, -1 and -2.
@@ -89,104 +95,79 @@ pub struct Tally {
 }
 
 // All samples are from -2 to 1, so what is none of the three is 0.
-pub fn tally_of(samples: &[u8], n: usize, mask: u8) -> Tally
-    requires le_n { (1 ≤ n) × ((n ≤ 320) × ((n ≤ length samples.now) × (is_mask mask ≡ true))) }
-    requires samples_value { near (least_of mask (take n samples.now)) (greatest_of mask (take n samples.now)) ≡ true }
-    ensures { Tallied mask (take n samples.now) result }
+pub fn tally_of(frame: &[u8], mask: u8) -> Tally
+    requires frame_in { (1 ≤ length frame.now) × ((length frame.now ≤ 320) × (is_mask mask ≡ true)) }
+    requires samples_value { near (least_of mask frame.now) (greatest_of mask frame.now) ≡ true }
+    ensures { Tallied mask frame.now result }
 {
-    let one = count_of(samples, n, sample_of(mask, 1));
-    let minus = count_of(samples, n, minus_zero(mask));
-    let twos = count_of(samples, n, sample_of(mask, -2));
+    let one = count_of(frame, sample_of(mask, 1));
+    let minus = count_of(frame, minus_zero(mask));
+    let twos = count_of(frame, sample_of(mask, -2));
     Tally {
-        plus: n - (one + minus + twos),
-        one: one,
-        minus: minus,
-        twos: twos,
+        plus: frame.len() - (one + minus + twos),
+        one,
+        minus,
+        twos,
     }
 }
 
 // The least of the samples, as a place on the line of signed numbers, where 0 is at 128.
+#[tactic(auto, unfolding(crate::specs::Rows::least_by))]
 fn least_in(t: Tally) -> u8
     ensures { result ≡ least_by t.twos t.minus t.plus }
 {
     if t.twos != 0 {
-        return 126;
+        126
+    } else if t.minus != 0 {
+        127
+    } else if t.plus != 0 {
+        128
+    } else {
+        129
     }
-    if t.minus != 0 {
-        return 127;
-    }
-    if t.plus != 0 {
-        return 128;
-    }
-    129
 }
 
+// Apart from `least_in`: the values are asked in another order, so one function of both is no plainer.
+#[tactic(auto, unfolding(crate::specs::Rows::greatest_by))]
 fn greatest_in(t: Tally) -> u8
     ensures { result ≡ greatest_by t.one t.plus t.minus }
 {
     if t.one != 0 {
-        return 129;
+        129
+    } else if t.plus != 0 {
+        128
+    } else if t.minus != 0 {
+        127
+    } else {
+        126
     }
-    if t.plus != 0 {
-        return 128;
-    }
-    if t.minus != 0 {
-        return 127;
-    }
-    126
 }
 
 // "least and greatest are a row's, N fits it"
-fn is_row(l: u8, g: u8, n: usize, least: u8, greatest: u8, from: usize) -> bool
-    ensures { result ≡ eqb l least && eqb g greatest && leb from n }
-{
-    if l != least {
-        return false;
-    }
-    if g != greatest {
-        return false;
-    }
-    from <= n
-}
-
-// The row, or 4 where none is.
-pub fn row_of(t: Tally, n: usize) -> usize
-    ensures { (result ≡ row_for t n) × (result ≤ 4) }
+#[tactic(auto, unfolding(crate::specs::Rows::row_by))]
+pub fn row_of(t: Tally, n: usize) -> Option<usize>
+    ensures { result ≡ row_for t n }
 {
     let least = least_in(t);
     let greatest = greatest_in(t);
-    if is_row(least, greatest, n, 126, 129, 240) {
-        return 0;
+    if least == 126 && greatest == 129 && 240 <= n {
+        Some(0)
+    } else if least == 127 && greatest == 129 && 80 <= n {
+        Some(1)
+    } else if least == 126 && greatest == 128 && 80 <= n {
+        Some(2)
+    } else if least == 128 && greatest == 129 && 80 <= n {
+        Some(3)
+    } else {
+        None
     }
-    if is_row(least, greatest, n, 127, 129, 80) {
-        return 1;
-    }
-    if is_row(least, greatest, n, 126, 128, 80) {
-        return 2;
-    }
-    if is_row(least, greatest, n, 128, 129, 80) {
-        return 3;
-    }
-    4
 }
 
-// "N is 80 or more, least and greatest are a row's, N fits it, and no value is more frequent than 0"
-pub fn located_applies(t: Tally, n: usize, row: usize) -> bool
-    ensures { result ≡ leb 80 n && ltb row 4 && leb t.one t.plus && leb t.minus t.plus && leb t.twos t.plus }
+// "N is 80 or more, least and greatest are a row's, N fits it, and no value is more frequent than 0": the last of these.
+pub fn zero_leads(t: Tally) -> bool
+    ensures { result ≡ leb t.one t.plus && leb t.minus t.plus && leb t.twos t.plus }
 {
-    if n < 80 {
-        return false;
-    }
-    if 4 <= row {
-        return false;
-    }
-    if t.plus < t.one {
-        return false;
-    }
-    if t.plus < t.minus {
-        return false;
-    }
-    t.twos <= t.plus
+    t.one <= t.plus && t.minus <= t.plus && t.twos <= t.plus
 }
 
 // "flag 1 if as many samples are above 0 as below or more"
@@ -203,7 +184,8 @@ pub struct Value {
     pub times: usize,
 }
 
-// Values in their order: the first `count`. One that the row lacks is the first once more, and does not occur.
+// Values in their order: the first `count`. One that the row lacks is the first once more, and does not occur. No array: each has its own
+// lent runs and its own D, which are no array either.
 #[derive(Clone, Copy, Drop)]
 pub struct Values {
     pub first: Value,
@@ -214,7 +196,7 @@ pub struct Values {
 
 // Three values, two, or only one.
 fn three(x: Value, y: Value, z: Value) -> Values
-    ensures { result ≡ record { first = x; second = y; third = z; count = 3 } }
+    ensures { result ≡ three x y z }
 {
     Values {
         first: x,
@@ -226,22 +208,18 @@ fn three(x: Value, y: Value, z: Value) -> Values
 
 // A value where the row lacks one: it is there, and does not occur.
 fn again(x: Value) -> Value
-    ensures { result ≡ record { sample = x.sample; times = 0 } }
+    ensures { result ≡ again x }
 {
-    Value {
-        sample: x.sample,
-        times: 0,
-    }
+    Value { times: 0, ..x }
 }
 
 fn two(x: Value, y: Value) -> Values
-    ensures { result ≡ record { first = x; second = y; third = record { sample = x.sample; times = 0 }; count = 2 } }
+    ensures { result ≡ two x y }
 {
-    let z = again(x);
     Values {
         first: x,
         second: y,
-        third: z,
+        third: again(x),
         count: 2,
     }
 }
@@ -249,35 +227,27 @@ fn two(x: Value, y: Value) -> Values
 fn only(x: Value) -> Values
     ensures { result ≡ only_of x }
 {
-    let z = again(x);
     Values {
         first: x,
-        second: z,
-        third: z,
+        second: again(x),
+        third: again(x),
         count: 1,
     }
 }
 
 // A row's values in the flag's order. Where the greatest is 0 the flag is 0, and where the least is 0 it is 1.
+#[tactic(auto, unfolding(crate::specs::Rows::values_by))]
 fn ordered(row: usize, flag: usize, one: Value, minus: Value, twos: Value) -> Values
     ensures { result ≡ values_by row flag one minus twos }
 {
-    if row == 3 {
-        return only(one);
+    match (row, flag) {
+        (3, _) => only(one),
+        (2, _) => two(minus, twos),
+        (1, 1) => two(one, minus),
+        (1, _) => two(minus, one),
+        (_, 1) => three(one, minus, twos),
+        _ => three(minus, one, twos),
     }
-    if row == 2 {
-        return two(minus, twos);
-    }
-    if row == 1 {
-        if flag == 1 {
-            return two(one, minus);
-        }
-        return two(minus, one);
-    }
-    if flag == 1 {
-        return three(one, minus, twos);
-    }
-    three(minus, one, twos)
 }
 
 // The same of the values that were counted.
@@ -301,6 +271,7 @@ fn values_of(mask: u8, t: Tally, row: usize, flag: usize) -> Values
 }
 
 // A way for each value.
+// No array, as of `Values`.
 #[derive(Clone, Copy, Drop)]
 pub struct Ways {
     pub first: Way,
@@ -311,38 +282,31 @@ pub struct Ways {
 // The ways of values, one after the other, "D is N for the first value, then the places still empty". Their runs are left in the
 // lent arrays.
 fn ways_of(
-    samples: &[u8],
-    n: usize,
+    frame: &[u8],
     plus: u8,
     v: Values,
     a: &mut [u16; 321],
     b: &mut [u16; 321],
     c: &mut [u16; 321],
 ) -> Ways
-    requires n_bound { (n ≤ 320) × ((n ≤ length samples.now) × (n % 40 ≡ 0)) }
-    requires in_turn { InTurn plus (take n samples.now) v }
-    requires a_len { (length a.old ≡ 321) × ((length b.old ≡ 321) × (length c.old ≡ 321)) }
-    ensures { WaysAre (take n samples.now) v result a.new b.new c.new }
+    requires frame_bound { (length frame.now ≤ 320) × (length frame.now % 40 ≡ 0) }
+    requires in_turn { InTurn plus frame.now v }
+    ensures { WaysAre frame.now v result a.new b.new c.new }
 {
-    let x = v.first;
-    let y = v.second;
-    let z = v.third;
     let sought = Sought {
-        plus: plus,
-        first: x.sample,
-        second: y.sample,
-        third: z.sample,
+        plus,
+        first: v.first.sample,
+        second: v.second.sample,
+        third: v.third.sample,
     };
-    let found = found_in(samples, n / 40, sought, a, b, c);
-    let d = n - x.times;
-    let e = d - y.times;
-    let first = way_of(a, found.first, n, x.times);
-    let second = way_if(2 <= v.count, b, found.second, d, y.times);
-    let third = way_if(3 <= v.count, c, found.third, e, z.times);
+    let found = found_in(frame, sought, a, b, c);
+    let n = frame.len();
+    let d = n - v.first.times;
+    let e = d - v.second.times;
     Ways {
-        first: first,
-        second: second,
-        third: third,
+        first: way_of(&a[..found.first], n, v.first.times),
+        second: way_if(2 <= v.count, &b[..found.second], d, v.second.times),
+        third: way_if(3 <= v.count, &c[..found.third], e, v.third.times),
     }
 }
 
@@ -363,10 +327,7 @@ fn located_bits(w: Ways) -> usize
     requires { w.first.bits + w.second.bits + w.third.bits ≤ 600000000 }
     ensures { result ≡ 11 + (w.first.bits + w.second.bits + w.third.bits) }
 {
-    let first = w.first;
-    let second = w.second;
-    let third = w.third;
-    11 + (first.bits + second.bits + third.bits)
+    11 + (w.first.bits + w.second.bits + w.third.bits)
 }
 
 // A frame's tally, and the row that it has by it.
@@ -378,36 +339,29 @@ pub struct Counted {
 
 // What value-location writes of a frame that it applies to. The runs of its values are left in the lent arrays.
 pub fn located_of(
-    samples: &[u8],
-    n: usize,
+    frame: &[u8],
     mask: u8,
     k: Counted,
     a: &mut [u16; 321],
     b: &mut [u16; 321],
     c: &mut [u16; 321],
 ) -> Located
-    requires frame_in { (FrameIn samples.now n) × (is_mask mask ≡ true) }
-    requires tallied { (Tallied mask (take n samples.now) k.tally) × (applies mask 7 (take n samples.now) ≡ true) }
-    requires row_value { k.row ≡ row_for k.tally n }
-    requires a_len { (length a.old ≡ 321) × ((length b.old ≡ 321) × (length c.old ≡ 321)) }
-    ensures { LocatedIs mask (take n samples.now) result a.new b.new c.new }
+    requires frame_in { (FrameIn frame.now) × (is_mask mask ≡ true) }
+    requires tallied { (Tallied mask frame.now k.tally) × (applies mask 7 frame.now ≡ true) }
+    requires row_value { Some k.row ≡ row_for k.tally (length frame.now) }
+    ensures { LocatedIs mask frame.now result a.new b.new c.new }
 {
     let t = k.tally;
-    let row = k.row;
     let flag = flag_of(t.one, t.minus + t.twos);
-    let v = values_of(mask, t, row, flag);
-    let w = ways_of(samples, n, plus_zero(mask), v, a, b, c);
-    let bits = located_bits(w);
-    let first = w.first;
-    let second = w.second;
-    let third = w.third;
+    let v = values_of(mask, t, k.row, flag);
+    let w = ways_of(frame, plus_zero(mask), v, a, b, c);
     Located {
-        bits: bits,
-        row: row,
-        flag: flag,
+        bits: located_bits(w),
+        row: k.row,
+        flag,
         count: v.count,
-        first: first,
-        second: second,
-        third: third,
+        first: w.first,
+        second: w.second,
+        third: w.third,
     }
 }

@@ -1,7 +1,7 @@
 // What runs need with each S, and the least; ceil(log2 D).
 #![tactic(auto)]
 
-ghost use Rattle.std.specs.Prelude.{◌≡◌, cond, ◌+◌, ◌*◌, ◌^◌, ◌/◌, ◌≤◌, ◌<◌, length, take, ltb};
+ghost use Rattle.std.specs.Prelude.{◌≡◌, ◌^◌, ◌≤◌, length};
 ghost use Rattle.rules.specs.Bits.{octets_for};
 ghost use Rattle.rules.specs.Runs.{rice_forms};
 ghost use Rattle.rules.specs.Located.{width_of};
@@ -14,65 +14,40 @@ pub struct Least {
     pub bits: usize,
 }
 
-// The zeros of Rice(S, v).
-fn zeros_of(v: u16, s: usize) -> u32
-    requires { s ≤ 15 }
-    ensures { (result ≡ v / 2 ^ s) × (result < 65536) }
-{
-    (v >> s) as u32
-}
-
-// The bits of runs with parameter S: their zeros, and for each its one and its S low bits.
-pub fn run_bits(runs: &[u16; 321], count: usize, s: usize) -> usize
-    requires { (s ≤ 15) × ((count ≤ 321) × (count ≤ length runs.now)) }
-    ensures { (result ≡ length (rice_forms s (take count runs.now))) × (result ≤ 100000000) }
+// The bits of runs with parameter S: their zeros, and for each its one and its S low bits. Counted in 32 bits, so that four go to a
+// register.
+pub fn run_bits(runs: &[u16], s: usize) -> usize
+    requires { (s ≤ 15) × (length runs.now ≤ 321) }
+    ensures { (result ≡ length (rice_forms s runs.now)) × (result ≤ 100000000) }
 {
     let mut zeros: u32 = 0;
-    let mut j = 0;
-    while j < count {
-        zeros += zeros_of(runs[j], s);
-        j += 1;
+    for &v in runs {
+        zeros += u32::from(v >> s);
     }
-    zeros as usize + count * (1 + s)
+    zeros as usize + runs.len() * (1 + s)
 }
 
-// The better of two: the other S only where it needs fewer bits, so "the smaller S on a tie".
-fn lesser(best: Least, s: usize, bits: usize) -> Least
-    ensures { (result.s ≡ cond (ltb bits best.bits) s best.s) × (result.bits ≡ cond (ltb bits best.bits) bits best.bits) }
-{
-    if bits < best.bits {
-        return Least { s: s, bits: bits };
-    }
-    best
-}
-
-// Of S = 1 to most, the first with fewest bits of the runs and of what goes with S. Each run has a one and S low bits. Where these
-// alone are as many as the fewest so far, no S from there on needs fewer, since they grow with S; the search stops.
-pub fn least_s(runs: &[u16; 321], count: usize, extra: &[u8; 10], most: usize) -> Least
-    requires count_bound { (count ≤ 321) × (count ≤ length runs.now) }
+// Of S = 1 to most, the first with fewest bits of the runs and of what goes with S: "the smaller S on a tie". Each run has a one and S low
+// bits. Where these alone are as many as the fewest so far, no S from there on needs fewer, since they grow with S; the search stops.
+pub fn least_s(runs: &[u16], extra: &[u8; 10], most: usize) -> Least
+    requires few { length runs.now ≤ 321 }
     requires le_most { (1 ≤ most) × (most ≤ 9) }
-    ensures { LeastIs (bits_with extra.now (take count runs.now)) most result }
+    ensures { LeastIs (bits_with extra.now runs.now) most result }
 {
     let mut best = Least {
         s: 1,
-        bits: octet(extra[1]) + run_bits(runs, count, 1),
+        bits: usize::from(extra[1]) + run_bits(runs, 1),
     };
-    let mut k = 2;
-    while k <= most {
-        if best.bits <= count * (1 + k) {
+    for s in 2..most + 1 {
+        if best.bits <= runs.len() * (1 + s) {
             return best;
         }
-        let bits = octet(extra[k]) + run_bits(runs, count, k);
-        best = lesser(best, k, bits);
-        k += 1;
+        let bits = usize::from(extra[s]) + run_bits(runs, s);
+        if bits < best.bits {
+            best = Least { s, bits };
+        }
     }
     best
-}
-
-fn octet(x: u8) -> usize
-    ensures { (result ≡ x) × (result < 256) }
-{
-    x as usize
 }
 
 // ceil(log2 D)
@@ -80,11 +55,11 @@ pub fn width_of(d: usize) -> usize
     requires { d ≤ 320 }
     ensures { (result ≡ width_of d) × ((result ≤ 9) × (d ≤ 2 ^ result)) }
 {
-    let mut w = 0;
-    while (1 << w) < d {
-        w += 1;
+    if d <= 1 {
+        0
+    } else {
+        (d - 1).ilog2() as usize + 1
     }
-    w
 }
 
 // "ROOM means the chosen form's octets for a writer": "bits divided by 8, rounded up".
@@ -92,5 +67,5 @@ pub fn octets_for(bits: usize) -> usize
     requires { bits ≤ 1000000000 }
     ensures { result ≡ octets_for bits }
 {
-    (bits + 7) / 8
+    bits.div_ceil(8)
 }

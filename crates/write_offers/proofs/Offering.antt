@@ -5,24 +5,28 @@ use mathlib.Core.Logic.{◌⊎◌, inl, inr}
 use mathlib.Core.List.{List}
 use mathlib.Core.Bool.{Bool, true, false}
 use native.Mathlib.Omega.{arith}
-use borrow.Author.Tests.{ne_eqb, eqb-true, lt-leb, le-leb, lt-ltb, le-ltb, ltb-true, ltb-false}
+use borrow.Author.Tests.{ne_eqb, eqb-true, lt-leb, le-leb}
 use lib.ListN.{length, get_or, length-append}
-use lib.Dec.{eqb, leb, ltb}
-use Rattle.rules.specs.Tools.{is_tool, holds}
+use lib.Dec.{eqb, leb}
+use Rattle.rules.specs.Tools.{is_tool}
 use Rattle.rules.proofs.Tests.{by-tool}
 use Rattle.rules.specs.Samples.{plus_zero, minus_zero}
-use Rattle.rules.specs.Chooses.{every, has_row, row_number, row_or, row_of, applies, form_of, rice_choice, located_form}
+use Rattle.rules.specs.Chooses.{Row, none as no_row, row as the_row, every, has_row, row_number, row_of, applies, form_of, rice_choice, located_form}
 use Rattle.rules.specs.Chooses.{frame_row, fractional_applies, fractional_form, least_of, greatest_of}
 use Rattle.rules.specs.Bits.{low_bits}
-use Rattle.rules.specs.Fractional.{first_code, row_count, body_bits, fractional_body}
+use Rattle.rules.specs.Fractional.{first_code, body_bits, fractional_body}
 use Rattle.rules.proofs.Octets.{length-low_bits}
 use Rattle.rules.proofs.Fractional.{length-body}
 use Rattle.write_scan.specs.Looks.{near_by, near, two_zeros}
 use Rattle.write_scan.proofs.Tests.{never}
-use Rattle.rules.proofs.FrameRow.{below-past, number-or, row_low, row-extent}
+use Rattle.rules.proofs.FrameRow.{the_row as told_row, row-extent}
+use Rattle.write_fractional.specs.Keys.{row_in}
 use Rattle.write_located.proofs.Near.{row_near, zeros-near}
-use Rattle.write_offers.specs.declared.Offer.{Offer}
-use Rattle.write_offers.specs.Offers.{whole_bits, failing, OfferIs, offer_if}
+use Rattle.std.proofs.Common.{Option, Some, None, Result, Ok, Err, IsErrAnd}
+use Rattle.std.proofs.lemmas.Result.{err_from_is_err_and}
+use Rattle.write_offers.specs.declared.Condition.{Condition}
+use Rattle.write_offers.specs.declared.Condition.TheVariants.{Only, Length, Row as RowLacks}
+use Rattle.write_offers.specs.Offers.{condition_told, whole_bits, failing, OfferIs, offer_if}
 use Rattle.write_offers.proofs.Choosing.{uncompressed-bits, plus-bits, minus-bits, constant-bits}
 
 -- a tool that is not 11
@@ -32,24 +36,40 @@ low-tool t h =
     (λ z. (omega arith, omega arith)) (λ z. (omega arith, omega arith))
     (λ z. (omega arith, omega arith)) (λ z. (omega arith, omega arith)) (λ z. (omega arith, omega arith)) (λ z. absurd (z refl)) t h
 
-pub offer-as : {mask t u : ℕ} {s : List ℕ} {r : Offer} → u ≡ t → OfferIs mask t s r → OfferIs mask u s r
-offer-as e p = rw e p
+abbrev Offer : Type 0
+Offer = Result ℕ Condition
 
 -- a tool of one condition, by whether it is met
 pub met : (mask t : ℕ) (s : List ℕ) {b : ℕ} {r : Offer} → applies mask t s ≡ true → b ≡ length (form_of mask t s)
-    → b ≤ 1000000000 → r ≡ record { why = 0; bits = b } → OfferIs mask t s r
-unfolding failing
-met mask t s e f few told = rw told (record { why = rw e; bits = f ∙ rw e; small = few })
+    → b ≤ 1000000000 → r ≡ Ok b → OfferIs mask t s r
+met mask t s e f few told = rw told (e, (f, few))
 
-pub unmet : (mask t : ℕ) (s : List ℕ) {r : Offer} → (t ≡ 7 → ⊥) → applies mask t s ≡ false → r ≡ record { why = 1; bits = 0 }
+pub unmet : (mask t : ℕ) (s : List ℕ) {r : Offer} → (t ≡ 7 → ⊥) → applies mask t s ≡ false → r ≡ Err Only
     → OfferIs mask t s r
 unfolding failing
-unmet mask t s other e told = rw told (record { why = rw (e, ne_eqb t 7 other); bits = rw e; small = omega arith })
+unmet mask t s other e told = rw told (e, rw (e, ne_eqb t 7 other))
 
 pub offer-one : (mask t : ℕ) (s : List ℕ) {a : Bool} {b : ℕ} {r : Offer} → t ≤ 6 → applies mask t s ≡ a → b ≡ length (form_of mask t s)
     → b ≤ 1000000000 → r ≡ offer_if a b → OfferIs mask t s r
 offer-one mask t s {a = true} low e f few told = met mask t s e f few told
 offer-one mask t s {a = false} low e f few told = unmet mask t s (λ z. omega arith) e told
+
+-- a row that was looked for
+held-in : (r : Row) (k : ℕ) → Some k ≡ row_in r → has_row r ≡ true
+held-in no_row k e = cc
+held-in (the_row j) k e = refl
+
+number-in : (r : Row) (k : ℕ) → Some k ≡ row_in r → k ≡ row_number r
+number-in no_row k e = cc
+number-in (the_row j) k e = cc
+
+none-in : (r : Row) → ◌≡◌ {A = Option ℕ} None (row_in r) → has_row r ≡ false
+none-in no_row e = refl
+none-in (the_row j) e = cc
+
+-- what fails, handed on
+pub handed_on : {A E : Type 0} (r : Result A E) {why : E} → IsErrAnd r (λ e. e ≡ why) → r ≡ Err why
+handed_on r h = let p = err_from_is_err_and r h in rw (p.1, p.2)
 
 -- tools 1 to 4
 module _ (mask : ℕ) (s : List ℕ) where
@@ -81,10 +101,6 @@ module _ (mask : ℕ) (s : List ℕ) where
   unfolding form_of
   rice-form = refl
 
-  pub rice-held : holds 32 6 ≡ true
-  unfolding holds
-  rice-held = refl
-
   -- tool 11
   pub fractional-form : 8 + body_bits (row_number (frame_row mask s)) (length s) ≡ length (form_of mask 11 s)
   unfolding form_of fractional_form
@@ -93,50 +109,40 @@ module _ (mask : ℕ) (s : List ℕ) where
       sym (length-append (low_bits 8 (first_code (length s) + k)) (fractional_body mask k s)
       ∙ ap₂ ◌+◌ (length-low_bits 8 (first_code (length s) + k)) (length-body mask k s))
 
-  module _ {n : ℕ} (size : length s ≡ n) {k : ℕ} (row : k ≡ row_or (row_count n) (frame_row mask s)) where
-    row_has : ltb k (row_count n) ≡ has_row (frame_row mask s)
-    row_has = rw (row, ← size) (below-past (row_count (length s)) (frame_row mask s) (row_low mask s))
+  module _ {k : ℕ} (row : Some k ≡ row_in (frame_row mask s)) where
+    pub row-held : has_row (frame_row mask s) ≡ true
+    row-held = held-in (frame_row mask s) k row
 
-    pub row-held : k < row_count n → has_row (frame_row mask s) ≡ true
-    row-held h = sym row_has ∙ lt-ltb k (row_count n) h
+    pub row_number_lem : k ≡ row_number (frame_row mask s)
+    row_number_lem = number-in (frame_row mask s) k row
 
-    pub row_number_lem : k < row_count n → k ≡ row_number (frame_row mask s)
-    row_number_lem h = row ∙ sym (number-or (row_count n) (frame_row mask s) (rw (← row) h))
+    pub row-few : k < 12
+    row-few = rw row_number_lem (told_row mask s row-held).few
 
-    pub row-bits : k < row_count n → 8 + body_bits k n ≡ length (form_of mask 11 s)
-    row-bits h = rw (row_number_lem h, ← size) fractional-form
+    pub row-bits : 8 + body_bits k (length s) ≡ length (form_of mask 11 s)
+    row-bits = rw row_number_lem fractional-form
 
-    pub row-applies : k < row_count n → applies mask 11 s ≡ true
+    pub row-applies : applies mask 11 s ≡ true
     unfolding applies
-    row-applies h = row-held h
+    row-applies = row-held
 
-    pub row-unmet : row_count n ≤ k → applies mask 11 s ≡ false
-    unfolding applies
-    row-unmet h = sym row_has ∙ le-ltb k (row_count n) h
-
-    pub fractional-offer : {r : Offer} → r ≡ offer_if (ltb k (row_count n)) (8 + body_bits k n) → r.bits ≤ 840 → OfferIs mask 11 s r
-    fractional-offer {r} told few = go (ltb k (row_count n)) refl
-      where
-        go : (b : Bool) → ltb k (row_count n) ≡ b → OfferIs mask 11 s r
-        go true h =
-            let e : r ≡ record { why = 0; bits = 8 + body_bits k n } = told ∙ rw h refl in
-            met mask 11 s (row-applies (ltb-true _ _ h)) (row-bits (ltb-true _ _ h)) (omega (arith, few, ap (λ (o : Offer). o.bits) e)) e
-        go false h = unmet mask 11 s (λ z. omega arith) (row-unmet (ltb-false _ _ h)) (told ∙ rw h refl)
+  pub row-unmet : ◌≡◌ {A = Option ℕ} None (row_in (frame_row mask s)) → applies mask 11 s ≡ false
+  unfolding applies
+  row-unmet row = none-in (frame_row mask s) row
 
   -- value-location by its conditions in turn: the length, the row, the frequency of 0
   pub located-form : length (located_form mask s) ≡ length (form_of mask 7 s)
   unfolding form_of
   located-form = refl
 
-  pub near-fails : {why : ℕ} {r : Offer} → applies mask 7 s ≡ false → why ≡ failing mask 7 s → r ≡ record { why = why; bits = 0 }
+  pub near-fails : (why : Condition) {r : Offer} → applies mask 7 s ≡ false → condition_told why ≡ failing mask 7 s → r ≡ Err why
       → OfferIs mask 7 s r
-  near-fails off e told = rw told (record { why = e; bits = rw off; small = omega arith })
+  near-fails why off e told = rw told (off, e)
 
   module _ {n : ℕ} (size : length s ≡ n) where
-    pub short-offer : {r : Offer} → n < 80 → r ≡ record { why = 1; bits = 0 } → OfferIs mask 7 s r
+    pub short-offer : {r : Offer} → n < 80 → r ≡ Err Length → OfferIs mask 7 s r
     unfolding failing applies
-    short-offer h told = let e : leb 80 (length s) ≡ false = lt-leb 80 (length s) (omega arith) in
-        rw told (record { why = rw e; bits = rw e; small = omega arith })
+    short-offer h told = let e : leb 80 (length s) ≡ false = lt-leb 80 (length s) (omega arith) in rw told (rw e, rw e)
 
     pub rowless : 80 ≤ n → has_row (row_of mask s) ≡ false → (applies mask 7 s ≡ false) × (2 ≡ failing mask 7 s)
     unfolding failing applies
@@ -144,9 +150,9 @@ module _ (mask : ℕ) (s : List ℕ) where
         let e : leb 80 (length s) ≡ true = le-leb 80 (length s) (omega arith) in
         (rw (e, g), rw (e, g))
 
-    pub far-offer : {r : Offer} → 80 ≤ n → near (least_of mask s) (greatest_of mask s) ≡ false → r ≡ record { why = 2; bits = 0 }
+    pub far-offer : {r : Offer} → 80 ≤ n → near (least_of mask s) (greatest_of mask s) ≡ false → r ≡ Err RowLacks
         → OfferIs mask 7 s r
-    far-offer h far told = let l = rowless h (ap has_row (row_near mask s far)) in near-fails l.0 l.1 told
+    far-offer h far told = let l = rowless h (ap has_row (row_near mask s far)) in near-fails RowLacks l.0 l.1 told
 
     pub rare : 80 ≤ n → has_row (row_of mask s) ≡ true → applies mask 7 s ≡ false → 3 ≡ failing mask 7 s
     unfolding failing

@@ -8,7 +8,6 @@ use native.Mathlib.Numerals.{add-one}
 use native.Mathlib.Nat.{add-zero, pow-suc, lt_of_not-le, div-eq_of_lt}
 use lib.ListN.{length, get_or, take, set, replicate, length-set}
 use lib.Seq.{take-suc, take-suc-set, take-set-le}
-use lib.Count.{count_leading_zeros, leading_top}
 use lib.Pow.{pow_mono, shl_exact}
 use lib.Dec.{eqb, eqb-suc-zero, lit<}
 use Rattle.rules.specs.Bits.{low_bits}
@@ -170,14 +169,9 @@ module _ {flags runs : List ℕ} {t : Track} {w end : ℕ} (n : InWord flags run
 pub one_at : (j : ℕ) → j < 64 → (1 * 2 ^ j) % 2 ^ 64 ≡ 2 ^ j
 one_at j h = shl_exact {a = 1} 1 j 64 (lit< tt) (omega arith) ∙ omega arith
 
--- the highest 1 by the leading zeros
-pub top-leads : (w : ℕ) → 0 < w → w < 2 ^ 64
-    → (count_leading_zeros 64 w ≤ 63) × (2 ^ (63 - count_leading_zeros 64 w) ≤ w) × (w < 2 ^ (63 - count_leading_zeros 64 w + 1))
-top-leads w some fits =
-    let t = leading_top 64 w some fits in
-    let e : t.0 ≡ 63 - count_leading_zeros 64 w = omega (arith, t.1) in
-    let s : suc t.0 ≡ 63 - count_leading_zeros 64 w + 1 = omega (arith, t.1) in
-    (omega (arith, t.1), rw e at t.2, rw s at t.3)
+-- below twice a power, as the library's logarithm says it
+pub below_next : (j : ℕ) {w : ℕ} → w < 2 * 2 ^ j → w < 2 ^ (j + 1)
+below_next j h = rw (add-one, pow-suc 2 j) (omega arith)
 
 -- before the first word
 pub row-track-none : (row runs : List ℕ) (t : Track) → t.count ≡ 0 → t.start ≡ 0 → length runs ≡ 321

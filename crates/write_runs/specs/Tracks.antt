@@ -1,5 +1,5 @@
 -- Runs as they are found, a 1 at a time.
-use Rattle.std.specs.Prelude.{ℕ, ◌+◌, ◌*◌, ◌-◌, ◌≤◌, ◌≡◌, List, ◌++◌, cond, length, take, set, eqb}
+use Rattle.std.specs.Prelude.{ℕ, ◌+◌, ◌-◌, ◌≤◌, ◌≡◌, List, ◌++◌, cond, length, take, set, eqb}
 use Rattle.rules.specs.Runs.{runs_of}
 use Rattle.rules.specs.Chooses.{flags_for, without}
 use Rattle.write_runs.specs.declared.Track.{Track}
@@ -29,10 +29,6 @@ pub record TracksAre (v : Sought) (s : List ℕ) (p : ℕ) (t : Tracks) (a b c :
   pub first : TrackIs (flags_for v.first s) a t.first p
   pub second : TrackIs (flags_for v.second (without v.first s)) b t.second p
   pub third : TrackIs (flags_for v.third (without v.second (without v.first s))) c t.third p
-
--- the same over the first i words of 40 samples
-abbrev pub WordsTracked : Sought → List ℕ → ℕ → Tracks → List ℕ → List ℕ → List ℕ → Type 0
-WordsTracked v s i t a b c = TracksAre v (take (40 * i) s) (40 * i) t a b c
 
 -- three values, none of them the common one
 pub record Apart (v : Sought) : Type 0 where

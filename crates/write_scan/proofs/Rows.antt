@@ -1,18 +1,21 @@
 -- Laws of flags as a row of words: how a word and a row are filled.
 use Prim.Native.Nat.{ℕ, zero, suc, ◌+◌, ◌*◌, ◌^◌, ◌/◌, ◌%◌, ◌≤◌, ◌<◌}
-use mathlib.Core.Path.{◌≡◌, refl, ◌∙◌}
+use mathlib.Core.Path.{◌≡◌, refl, ap, ◌∙◌}
 use mathlib.Core.List.{List, [], ◌∷◌, ◌++◌, append-nil, append_assoc, map-append}
-use mathlib.Core.Bool.{cond}
+use mathlib.Core.Bool.{Bool, true, false, cond, not}
+use mir.Val.{bool_byte}
+use Rattle.std.specs.Simd.{first_chunks}
 use native.Mathlib.Omega.{arith}
 use native.Mathlib.Numerals.{add-one}
-use native.Mathlib.Nat.{pow-suc, lt_of_lt_of_le, zero-div}
+use native.Mathlib.Nat.{pow-suc, zero-div}
 use native.Mathlib.Decide.{ℕ_discrete}
-use lib.ListN.{length, get_or, take, drop, set, replicate, length-set, length-drop, length-append}
-use lib.Seq.{take-suc, take-add, take-suc-set, get_or-drop, get_or-set_same, get_or-set_other}
-use lib.Pow.{pow_mono}
+use lib.ListN.{length, get_or, take, drop, set, replicate, length-set, length-append}
+use lib.Seq.{take-suc, take-add, take-suc-set, get_or-take, get_or-set_same, get_or-set_other}
+use Rattle.std.proofs.lemmas.List.{drop-drop, length-take}
 use lib.Dec.{eqb, lit<}
 use Rattle.rules.specs.Bits.{low_bits}
-use Rattle.write_scan.specs.Rows.{Gathers, row_bits, RowIs}
+use Rattle.write_scan.specs.declared.row.Row.{Row}
+use Rattle.write_scan.specs.Rows.{Gathers, row_bits}
 use Rattle.rules.proofs.Words.{low_bits-join}
 use Rattle.write_scan.specs.Looks.{marks_of}
 use Rattle.rules.proofs.Octets.{length-low_bits}
@@ -49,35 +52,60 @@ word-one l j v b g small =
       fits = omega (arith, g.fits);
     }
 
+-- a test as a number
+pub test_byte : (b : Bool) → bool_byte b ≡ cond b 1 0
+test_byte true = refl
+test_byte false = refl
+
+mark_byte : (b : Bool) → bool_byte (not b) ≡ cond b 0 1
+mark_byte true = refl
+mark_byte false = refl
+
+pub byte_small : (b : Bool) {n : ℕ} → n ≡ bool_byte b → n < 2
+byte_small true e = rw e (lit< tt)
+byte_small false e = rw e (lit< tt)
+
 -- the same as the code has it
-pub word-again : (x : ℕ) (s : List ℕ) (from j v b : ℕ) → from + j < length s → Gathers (marks_of x 0 1 (take j (drop from s))) j v
-    → b ≡ cond (eqb (get_or s (from + j) 0) x) 0 1 → b < 2 → Gathers (marks_of x 0 1 (take (j + 1) (drop from s))) (j + 1) (2 * v + b)
-word-again x s from j v b h g e small =
+pub word-again : (x : ℕ) (s : List ℕ) (j : ℕ) {v b : ℕ} → Gathers (marks_of x 0 1 (take j s)) j v → j < length s
+    → b ≡ bool_byte (not (eqb (get_or s j 0) x)) → Gathers (marks_of x 0 1 (take (j + 1) s)) (j + 1) (2 * v + b)
+word-again x s j {v} {b} g h e =
     let f : ℕ → ℕ = λ y. cond (eqb y x) 0 1 in
-    let k : j < length (drop from s) = rw length-drop (omega arith) in
-    let at : marks_of x 0 1 (take (j + 1) (drop from s)) ≡ marks_of x 0 1 (take j (drop from s)) ++ (b ∷ []) =
-    rw (add-one, take-suc (drop from s) j 0 k, get_or-drop from s j 0, e) (map-append f (take j (drop from s)) (get_or s (from + j) 0 ∷ [])) in
-    rw at (word-one (marks_of x 0 1 (take j (drop from s))) j v b g small)
+    let told = e ∙ mark_byte (eqb (get_or s j 0) x) in
+    let at : marks_of x 0 1 (take (j + 1) s) ≡ marks_of x 0 1 (take j s) ++ (b ∷ []) =
+    rw (add-one, take-suc s j 0 h, told) (map-append f (take j s) (get_or s j 0 ∷ [])) in
+    rw at (word-one (marks_of x 0 1 (take j s)) j v b g (byte_small _ e))
 
--- a word of at most 40 flags is small
-pub word_fits : {l : List ℕ} (j v : ℕ) → j ≤ 40 → Gathers l j v → v < 2 ^ 40
-word_fits j v h g = lt_of_lt_of_le g.fits (pow_mono {j = 40} h)
+-- the words of a row that count
+module _ (row : Row) {words : List ℕ} (e : words ≡ take row.count row.words) where
+  pub words-few : length words ≤ 8
+  words-few = omega (arith, row.few, ap length e, length-take row.count row.words)
 
--- a row with one word more
+  pub word-small : (i : ℕ) → i < length words → get_or words i 0 < 2 ^ 40
+  word-small i h =
+      let at : i < row.count = omega (arith, ap length e, length-take row.count row.words) in
+      rw (e, get_or-take row.count row.words i 0 at) (row.small i)
+
+-- words with one word more
 small-set : (row : List ℕ) (i w : ℕ) → i < length row → w < 2 ^ 40 → ((j : ℕ) → get_or row j 0 < 2 ^ 40) → (j : ℕ) → Dec (j ≡ i)
     → get_or (set row i w) j 0 < 2 ^ 40
 small-set row i w h small all j (yes e) = rw (e, get_or-set_same row i w 0 h) small
 small-set row i w h small all j (no e) = rw (get_or-set_other row i j w 0 e) (all j)
 
-pub row_one : (flags more row : List ℕ) (i w : ℕ) → RowIs flags i row → i < 8 → Gathers more 40 w
-    → RowIs (flags ++ more) (i + 1) (set row i w)
+-- words that are laid, one after another
+pub record Laid (flags : List ℕ) (i : ℕ) (words : List ℕ) : Type 0 where
+  pub says : row_bits (take i words) ≡ flags
+  pub small : (j : ℕ) → get_or words j 0 < 2 ^ 40
+  pub size : length words ≡ 8
+
+pub laid_one : {flags more words : List ℕ} {i w : ℕ} → Laid flags i words → i < 8 → Gathers more 40 w
+    → Laid (flags ++ more) (i + 1) (set words i w)
 unfolding row_bits
-row_one flags more row i w t h g =
-    let inr : i < length row = omega (arith, t.size) in
+laid_one {words = words} {i = i} {w = w} t h g =
+    let inr : i < length words = omega (arith, t.size) in
     record {
-      says = rw (add-one, take-suc-set row i w inr, row-append, t.says, append-nil, g.says);
-      small = λ j. small-set row i w inr g.fits t.small j (ℕ_discrete j i);
-      size = length-set row i w ∙ t.size;
+      says = rw (add-one, take-suc-set words i w inr, row-append, t.says, append-nil, g.says);
+      small = λ j. small-set words i w inr g.fits t.small j (ℕ_discrete j i);
+      size = length-set words i w ∙ t.size;
     }
 
 zeros-small : (n i : ℕ) → get_or (replicate n 0) i 0 < 2 ^ 40
@@ -85,16 +113,27 @@ zeros-small zero i = lit< tt
 zeros-small (suc n) zero = lit< tt
 zeros-small (suc n) (suc i) = zeros-small n i
 
-pub row-none : RowIs [] 0 (replicate 8 0)
+pub laid-none : Laid [] 0 (replicate 8 0)
 unfolding row_bits
-row-none = record { says = refl; small = zeros-small 8; size = refl }
+laid-none = record { says = refl; small = zeros-small 8; size = refl }
+
+-- the chunk at a place
+pub chunk-of : (n k i : ℕ) (s : List ℕ) → i < k → get_or (first_chunks n k s) i [] ≡ take n (drop (n * i) s)
+chunk-of n zero i s h = absurd (omega arith)
+chunk-of n (suc k) zero s h = let e : n * 0 ≡ 0 = omega arith in rw e refl
+chunk-of n (suc k) (suc i) s h =
+    let e : n * suc i ≡ n + n * i = omega arith in
+    rw (chunk-of n k i (drop n s) (omega arith), e, drop-drop (n * i) n s) refl
+
+pub chunk-at : (k i : ℕ) (s : List ℕ) → i < k → get_or (first_chunks 40 k s) i [] ≡ take 40 (drop (40 * i) s)
+chunk-at = chunk-of 40
 
 -- the same as the code has it
-pub row-again : (x : ℕ) (s row : List ℕ) (k i w : ℕ) → k ≤ 8 → i < k → RowIs (marks_of x 0 1 (take (40 * i) s)) i row
-    → Gathers (marks_of x 0 1 (take 40 (drop (40 * i) s))) 40 w → RowIs (marks_of x 0 1 (take (40 * (i + 1)) s)) (i + 1) (set row i w)
-row-again x s row k i w few h t g =
+pub laid-again : (x k : ℕ) (s : List ℕ) {words : List ℕ} {i w : ℕ} → k ≤ 8 → i < k → Laid (marks_of x 0 1 (take (40 * i) s)) i words
+    → Gathers (marks_of x 0 1 (get_or (first_chunks 40 k s) i [])) 40 w → Laid (marks_of x 0 1 (take (40 * (i + 1)) s)) (i + 1) (set words i w)
+laid-again x k s {words} {i} {w} few h t g =
     let f : ℕ → ℕ = λ y. cond (eqb y x) 0 1 in
     let e : 40 * (i + 1) ≡ 40 * i + 40 = omega arith in
     let at : marks_of x 0 1 (take (40 * (i + 1)) s) ≡ marks_of x 0 1 (take (40 * i) s) ++ marks_of x 0 1 (take 40 (drop (40 * i) s)) =
     rw (e, take-add (40 * i) 40 s) (map-append f (take (40 * i) s) (take 40 (drop (40 * i) s))) in
-    rw at (row_one (marks_of x 0 1 (take (40 * i) s)) (marks_of x 0 1 (take 40 (drop (40 * i) s))) row i w t (omega arith) g)
+    rw at (laid_one t (omega arith) (rw (chunk-at k i s h) at g))

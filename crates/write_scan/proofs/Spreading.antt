@@ -15,7 +15,7 @@ use borrow.Author.Tests.{eq-eqb, eqb-true, eqb-false, ne_eqb, ltb-true, lt-ltb, 
 use Rattle.rules.specs.Samples.{signed, on_line, sample_of, plus_zero, minus_zero}
 use Rattle.rules.specs.Chooses.{count_of, every, least_of, greatest_of}
 use Rattle.rules.proofs.Tests.{and_left, and_right, or_cases}
-use Rattle.write_scan.specs.Looks.{near_by, near, two_zeros, SpreadIs}
+use Rattle.write_scan.specs.Looks.{near_by, near, two_zeros}
 use Rattle.rules.proofs.Counts.{count-le}
 use Rattle.write_scan.proofs.Looking.{count-more, least_more, greatest-more}
 
@@ -185,18 +185,17 @@ pub record Around (mask first : ℕ) (s : List ℕ) (any all : ℕ) : Type 0 whe
   pub same : eqb any all ≡ every (λ x. eqb x first) s
 
 -- a turn of the loop: before the first sample no bit is set by any, and every bit by all
-pub record SpreadTurn (s : List ℕ) (n mask any all i : ℕ) : Type 0 where
-  pub within : i ≤ n
+pub record SpreadTurn (s : List ℕ) (mask any all i : ℕ) : Type 0 where
   pub none : i ≡ 0 → (any ≡ 0) × (all ≡ 255)
   pub some : 1 ≤ i → Around mask (get_or s 0 0) (take i s) any all
   pub zeros : eqb (any % 128) 0 ≡ two_zeros mask (take i s)
   pub close : ltb (any % 128) 2 ≡ near (least_of mask (take i s)) (greatest_of mask (take i s))
   pub about : ltb (any % 128) 4 ≡ near_by 4 (least_of mask (take i s)) (greatest_of mask (take i s))
 
-pub spread_none : (s : List ℕ) (n mask : ℕ) → SpreadTurn s n mask 0 255 0
+pub spread_none : (s : List ℕ) (mask : ℕ) → SpreadTurn s mask 0 255 0
 unfolding count_of least_of greatest_of
-spread_none s n mask =
-    record { within = omega arith; none = λ e. (refl, refl); some = λ h. absurd (omega arith); zeros = refl; close = refl; about = refl }
+spread_none s mask =
+    record { none = λ e. (refl, refl); some = λ h. absurd (omega arith); zeros = refl; close = refl; about = refl }
 
 -- one sample more, around the first
 around-more : (mask first x any all : ℕ) → bit_xor first mask ≤ any → all ≤ bit_xor first mask
@@ -218,7 +217,7 @@ around-more mask first x any all over under =
     y : ℕ
     y = bit_xor x mask
 
-module _ (s : List ℕ) (n mask any all i : ℕ) (seven : mask < 128) (h : i < length s) (octet : get_or s i 0 < 256) where
+module _ (s : List ℕ) (mask any all i : ℕ) (seven : mask < 128) (h : i < length s) (octet : get_or s i 0 < 256) where
   abbrev y : ℕ
   y = bit_xor (get_or s i 0) mask
 
@@ -266,10 +265,9 @@ module _ (s : List ℕ) (n mask any all i : ℕ) (seven : mask < 128) (h : i < l
       ∙ ap₂ (λ (a b : Bool). a && b) e (one-near mask (get_or s i 0) (2 ^ j) few) ∙ sym (near-more (2 ^ j) l g p)
       ∙ ap₂ (near_by (2 ^ j)) (least_more s i h mask {n = l} {r = p} refl refl) (greatest-more s i h mask {n = g} {r = p} refl refl)
 
-  pub spread-turn : i < n → SpreadTurn s n mask any all i → SpreadTurn s n mask (bit_or any y) (bit_and all y) (i + 1)
-  spread-turn more t =
+  pub spread-turn : SpreadTurn s mask any all i → SpreadTurn s mask (bit_or any y) (bit_and all y) (i + 1)
+  spread-turn t =
       record {
-        within = omega arith;
         none = λ e. absurd (omega arith);
         some = λ k. go (eqb i 0) refl;
         zeros = zeros-next t.zeros;
@@ -280,8 +278,3 @@ module _ (s : List ℕ) (n mask any all i : ℕ) (seven : mask < 128) (h : i < l
       go : (b : Bool) → eqb i 0 ≡ b → Around mask (get_or s 0 0) (take (i + 1) s) (bit_or any y) (bit_and all y)
       go true e = let z = eqb-true i 0 e in around-first z (t.none z).0 (t.none z).1
       go false e = around-next (t.some (let f = eqb-false i 0 e in omega (arith, f)))
-
-pub spread-done : {s : List ℕ} {n mask any all i : ℕ} → 1 ≤ n → i ≡ n → SpreadTurn s n mask any all i
-    → SpreadIs mask (get_or s 0 0) (take n s) (record { any = any; all = all })
-spread-done {s} {n} {mask} {any} {all} h e t =
-    rw (← e) (record { same = (t.some (omega arith)).same; zeros = t.zeros; close = t.close; about = t.about })

@@ -44,5 +44,5 @@ length-in n h =
     let in_order : (k : ℕ) → Type 0 = λ k. (1 ≤ k) × ((k ≤ 320) × (k % 40 ≡ 0)) in
     by_length in_order (omega arith) (omega arith) (omega arith) (omega arith) (omega arith) n h
 
-pub frame-in : {n : ℕ} {samples : List ℕ} → is_length n ≡ true → (n ≤ 320 → n ≤ length samples) → FrameIn samples n
-frame-in {n} h long = let l = length-in n h in record { some = l.0; few = l.1.0; long = long l.1.0; whole = l.1.1 }
+pub frame-in : (frame : List ℕ) → is_length (length frame) ≡ true → FrameIn frame
+frame-in frame h = let l = length-in (length frame) h in record { some = l.0; few = l.1.0; whole = l.1.1 }

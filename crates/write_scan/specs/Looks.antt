@@ -40,9 +40,8 @@ pub record ExtentIs (mask : ℕ) (s : List ℕ) (r : Extent) : Type 0 where
 abbrev pub is_mask : ℕ → Bool
 is_mask mask = eqb mask 0x55 || eqb mask 0x7F
 
--- n samples of a frame, 40 to a word
-pub record FrameIn (samples : List ℕ) (n : ℕ) : Type 0 where
-  pub some : 1 ≤ n
-  pub few : n ≤ 320
-  pub long : n ≤ length samples
-  pub whole : n % 40 ≡ 0
+-- a frame's samples, 40 to a word
+pub record FrameIn (frame : List ℕ) : Type 0 where
+  pub some : 1 ≤ length frame
+  pub few : length frame ≤ 320
+  pub whole : length frame % 40 ≡ 0

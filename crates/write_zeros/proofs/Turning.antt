@@ -1,25 +1,24 @@
 -- Laws of a row of the flags of plus zero, turned into one of the flags of the common zero.
 use Prim.Native.Nat.{ℕ, zero, suc, ◌+◌, ◌*◌, ◌-◌, ◌^◌, ◌/◌, ◌%◌, ◌≤◌, ◌<◌}
-use mathlib.Core.Path.{◌≡◌, refl, sym, ap, ◌∙◌}
+use mathlib.Core.Path.{◌≡◌, refl, sym, ap, ap₂, ◌∙◌}
 use mathlib.Core.List.{List, [], ◌∷◌, ◌++◌, map, append-nil, map-append}
 use mathlib.Core.Bool.{Bool, true, false, cond, ◌||◌}
 use native.Mathlib.Omega.{arith}
 use native.Mathlib.Nat.{pow-suc}
-use native.Mathlib.Numerals.{add-one}
 use native.Mathlib.Decide.{dec_lt}
-use borrow.Author.Tests.{eqb-true, eq-eqb, ne_eqb}
-use lib.ListN.{length, get_or, take, set, replicate}
-use lib.Seq.{take-suc}
-use lib.Dec.{eqb}
+use borrow.Author.Tests.{eqb-true}
+use lib.ListN.{length, get_or, take, drop}
+use lib.Dec.{eqb, ltb, lit<}
+use Rattle.std.proofs.lemmas.List.{take-map, take_all, drop_all}
+use Rattle.write_scan.specs.declared.row.Row.{Row}
 use Rattle.rules.specs.Bits.{low_bits}
 use Rattle.rules.specs.Samples.{plus_zero, minus_zero}
 use Rattle.rules.specs.Zeros.{zero_of, flag_of}
 use Rattle.rules.specs.Chooses.{count_of}
-use Rattle.write_scan.specs.Rows.{Gathers, row_bits, RowIs}
+use Rattle.write_scan.specs.Rows.{row_bits, flags_in, RowIs}
 use Rattle.rules.proofs.Words.{low_bits-join}
-use Rattle.write_scan.proofs.Rows.{row-append, row_one, row-none}
-use Rattle.write_scan.specs.Looks.{marks_of, two_zeros, FrameIn}
-use Rattle.write_runs.specs.Runs.{RunsAre}
+use Rattle.write_scan.proofs.Rows.{word-small}
+use Rattle.write_scan.specs.Looks.{marks_of, two_zeros}
 use Rattle.rules.proofs.Counts.{count-le}
 use Rattle.write_zeros.specs.Rice.{turns_of}
 use Rattle.write_zeros.proofs.TwoZeros.{two-zeros}
@@ -51,37 +50,38 @@ unfolding low_bits
 turn-bits zero w h = refl
 turn-bits (suc n) w h = turn_more n w h (turn-bits n) (dec_lt w (2 ^ n))
 
-turns-none : (l : List ℕ) → turns_of false l ≡ l
+pub turns-none : (l : List ℕ) → turns_of false l ≡ l
 turns-none [] = refl
 turns-none (x ∷ l) = ap (λ (k : List ℕ). x ∷ k) (turns-none l)
 
--- as the code has it
-pub word-turned : (w : ℕ) → w < 2 ^ 40 → Gathers (turns_of true (low_bits 40 w)) 40 (0xFFFFFFFFFF - w)
-word-turned w h = record { says = turn-bits 40 w h; fits = omega arith }
+-- a row's words, as the code turns them
+abbrev pub turn_word : ℕ → ℕ
+turn_word w = 0xFFFFFFFFFF - w
 
-pub word_kept : (w : ℕ) → w < 2 ^ 40 → Gathers (turns_of false (low_bits 40 w)) 40 w
-word_kept w h = record { says = sym (turns-none (low_bits 40 w)); fits = h }
+pub whole_turned : (words : List ℕ) (i : ℕ) → length words ≤ i → map turn_word (take i words) ++ drop i words ≡ map turn_word words
+whole_turned words i h = rw (take_all i words h, drop_all i words h) (append-nil _)
 
--- a row with no word, and with one word more
-pub row-start : (t : Bool) (row : List ℕ) → RowIs (turns_of t (row_bits (take 0 row))) 0 (replicate 8 0)
+row-turned : (words : List ℕ) → ((i : ℕ) → i < length words → get_or words i 0 < 2 ^ 40)
+    → row_bits (map turn_word words) ≡ turns_of true (row_bits words)
 unfolding row_bits
-row-start t row = row-none
+row-turned [] h = refl
+row-turned (w ∷ words) h =
+    ap₂ (λ (a b : List ℕ). a ++ b) (turn-bits 40 w (h 0 (omega arith))) (row-turned words (λ i k. h (suc i) (omega arith)))
+    ∙ sym (map-append (λ f. cond true (1 - f) f) (low_bits 40 w) (row_bits words))
 
-pub row-turn : (t : Bool) (row r : List ℕ) (i w : ℕ) → i < length row → i < 8 → RowIs (turns_of t (row_bits (take i row))) i r
-    → Gathers (turns_of t (low_bits 40 (get_or row i 0))) 40 w → RowIs (turns_of t (row_bits (take (i + 1) row))) (i + 1) (set r i w)
-unfolding row_bits
-row-turn t row r i w h few done g =
-    let f : ℕ → ℕ = λ b. cond t (1 - b) b in
-    let e : turns_of t (row_bits (take (i + 1) row)) ≡ turns_of t (row_bits (take i row)) ++ turns_of t (low_bits 40 (get_or row i 0)) =
-    rw (add-one, take-suc row i 0 h, row-append, append-nil) (map-append f (row_bits (take i row)) (low_bits 40 (get_or row i 0))) in
-    rw e (row_one (turns_of t (row_bits (take i row))) (turns_of t (low_bits 40 (get_or row i 0))) r i w done few g)
+pub flags-turned : (row : Row) → row_bits (take row.count (map turn_word row.words)) ≡ turns_of true (flags_in row)
+flags-turned row =
+    ap row_bits (take-map turn_word row.count row.words) ∙ row-turned (take row.count row.words) (λ i h. word-small row refl i h)
+
+pub turned-small : (words : List ℕ) → (i : ℕ) → get_or (map turn_word words) i 0 < 2 ^ 40
+turned-small [] i = lit< tt
+turned-small (w ∷ words) zero = omega arith
+turned-small (w ∷ words) (suc i) = turned-small words i
 
 -- the row of the flags of plus zero is that of binary
-pub row-flags : (mask : ℕ) {n x : ℕ} {samples row : List ℕ} → FrameIn samples n → x ≡ plus_zero mask
-    → RowIs (marks_of x 0 1 (take (40 * (n / 40)) samples)) (n / 40) row → RowIs (map (flag_of mask 0) (take n samples)) (n / 40) row
-row-flags mask {n} {x} {samples} f e words =
-    let whole : 40 * (n / 40) ≡ n = omega (arith, f.whole) in
-    rw (ap (λ (k : ℕ). marks_of x 0 1 (take k samples)) whole ∙ ap (λ (z : ℕ). marks_of z 0 1 (take n samples)) e) at words
+pub row-flags : (mask : ℕ) {x k : ℕ} (frame : List ℕ) {row : Row} → x ≡ plus_zero mask → RowIs (marks_of x 0 1 frame) k row
+    → RowIs (map (flag_of mask 0) frame) k row
+row-flags mask frame e row = rw (ap (λ (z : ℕ). marks_of z 0 1 frame) e) at row
 
 -- where all samples are p or q, those that are not q are those that are p
 marks-turned : (p q : ℕ) → (p ≡ q → ⊥) → (s : List ℕ) → count_of (λ x. eqb x p || eqb x q) s ≡ length s
@@ -100,22 +100,10 @@ marks-turned p q ne (x ∷ s) h = step (eqb x p) (eqb x q) refl refl h (count-le
     step false false e f c le ih = absurd (omega arith)
 
 -- the flags of the common zero by those of plus zero
-pub zero-turned : (mask mark : ℕ) (s : List ℕ) {zero' : ℕ} → two_zeros mask s ≡ true → zero' ≡ zero_of mask mark 0
-    → turns_of (eqb zero' (minus_zero mask)) (marks_of (plus_zero mask) 0 1 s) ≡ marks_of zero' 0 1 s
-zero-turned mask mark s {zero'} zeros told = rw told (go (eqb 0 mark))
+pub common-turned : (mask plus minus : ℕ) (s : List ℕ) → two_zeros mask s ≡ true
+    → turns_of (ltb plus minus) (marks_of (plus_zero mask) 0 1 s) ≡ marks_of (zero_of mask (cond (ltb plus minus) 1 0) 0) 0 1 s
+common-turned mask plus minus s zeros = go (ltb plus minus)
   where
-    go : (b : Bool) → turns_of (eqb (cond b (plus_zero mask) (minus_zero mask)) (minus_zero mask)) (marks_of (plus_zero mask) 0 1 s) ≡ marks_of
-        (cond b (plus_zero mask) (minus_zero mask)) 0 1 s
-    go true = rw (ne_eqb (plus_zero mask) (minus_zero mask) (two-zeros mask)) (turns-none (marks_of (plus_zero mask) 0 1 s))
-    go false = rw (eq-eqb (minus_zero mask) (minus_zero mask) refl)
-        (marks-turned (plus_zero mask) (minus_zero mask) (two-zeros mask) s (eqb-true _ _ zeros))
-
--- and so their runs
-pub turned-runs : (mask mark : ℕ) (s : List ℕ) {k count minus' zero' : ℕ} {row flags runs : List ℕ} → two_zeros mask s ≡ true
-    → zero' ≡ zero_of mask mark 0 → minus' ≡ minus_zero mask
-    → RowIs (marks_of (plus_zero mask) 0 1 s) k row → RowIs (turns_of (eqb zero' minus') (row_bits (take k row))) k flags
-    → RunsAre (row_bits (take k flags)) count runs → RunsAre (marks_of zero' 0 1 s) count runs
-turned-runs mask mark s {minus' = minus'} {zero' = zero'} zeros told is-minus row flags found =
-    let e = flags.says ∙ ap (turns_of (eqb zero' minus')) row.says
-    ∙ ap (λ (m : ℕ). turns_of (eqb zero' m) (marks_of (plus_zero mask) 0 1 s)) is-minus ∙ zero-turned mask mark s zeros told in
-    rw e at found
+    go : (b : Bool) → turns_of b (marks_of (plus_zero mask) 0 1 s) ≡ marks_of (zero_of mask (cond b 1 0) 0) 0 1 s
+    go true = marks-turned (plus_zero mask) (minus_zero mask) (two-zeros mask) s (eqb-true _ _ zeros)
+    go false = turns-none (marks_of (plus_zero mask) 0 1 s)

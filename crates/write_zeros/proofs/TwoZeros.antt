@@ -7,7 +7,6 @@ use native.Mathlib.Omega.{arith}
 use borrow.Author.Tests.{eqb-true}
 use lib.ListN.{length, take, length-append}
 use lib.Dec.{eqb, ltb}
-use Rattle.rules.specs.Tools.{holds}
 use Rattle.rules.specs.Samples.{sample_of, plus_zero, minus_zero}
 use Rattle.rules.specs.First.{rice_code}
 use Rattle.rules.specs.Runs.{rice_forms, runs_form}
@@ -17,10 +16,8 @@ use Rattle.write_measure.specs.declared.Least.{Least}
 use Rattle.write_scan.specs.Looks.{count_is, marks_of, two_zeros}
 use Rattle.write_runs.specs.Runs.{RunsAre}
 use Rattle.write_measure.specs.Measures.{bits_with, LeastIs}
-use Rattle.write_zeros.specs.declared.Zeros.{Zeros}
 use Rattle.s_codes.specs.Codes.{CodesAre}
-use Rattle.write_zeros.specs.Rice.{StartIs, RiceFor}
-use Rattle.write_scan.proofs.Tests.{never}
+use Rattle.write_zeros.specs.Rice.{StartIs, RiceIs}
 
 -- each sample that is one of two is counted once
 either : (p q : ℕ) → (p ≡ q → ⊥) → (s : List ℕ) → count_of (λ x. eqb x p || eqb x q) s ≡ count_is p s + count_is q s
@@ -53,9 +50,6 @@ pub zeros-apply : (mask : ℕ) (s : List ℕ) → applies mask 6 s ≡ two_zeros
 unfolding applies
 zeros-apply mask s = refl
 
-pub no-rice : {mask set : ℕ} {s runs : List ℕ} {r : Zeros} → holds set 6 ≡ false → r.bits ≡ 0 → RiceFor mask set s r runs
-no-rice e z = record { rice = λ h. absurd (never (sym e ∙ h)); small = omega arith }
-
 -- all that is not minus zero is plus zero
 pub plus-left : (mask : ℕ) (s : List ℕ) {n minus : ℕ} → two_zeros mask s ≡ true → length s ≡ n → minus ≡ count_is (minus_zero mask) s
     → n - minus ≡ count_is (plus_zero mask) s
@@ -81,17 +75,16 @@ module _ (mask : ℕ) (s : List ℕ) where
 
   module _ {n plus minus : ℕ} (size : length s ≡ n) (is-plus : plus ≡ count_is (plus_zero mask) s)
       (is-minus : minus ≡ count_is (minus_zero mask) s) where
-    pub rice-for : {set mark zero' most start count : ℕ} {runs extra : List ℕ} {least : Least} → mark ≡ cond (ltb plus minus) 1 0
-        → zero' ≡ zero_of mask (cond (ltb plus minus) 1 0) 0 → RunsAre (marks_of zero' 0 1 s) count runs → CodesAre n extra
+    pub rice-is : {mark most start count : ℕ} {runs extra : List ℕ} {least : Least} → mark ≡ cond (ltb plus minus) 1 0
+        → RunsAre (marks_of (zero_of mask (cond (ltb plus minus) 1 0) 0) 0 1 s) count runs → CodesAre n extra
         → most ≡ most_s n → most ≤ 9 → LeastIs (bits_with extra (take count runs)) most least → StartIs n start
-        → RiceFor mask set s (record { bits = start + least.bits; mark = mark; s = least.s; count = count }) runs
-    rice-for {mark = mark} {zero' = zero'} {most = most} {start = start} {count = count} {runs = runs} {extra = extra}
-        {least = least} marked zeroed found codes top few best begun =
+        → RiceIs mask s (record { bits = start + least.bits; mark = mark; s = least.s; count = count }) runs
+    rice-is {mark = mark} {most = most} {start = start} {count = count} {runs = runs} {extra = extra} {least = least}
+        marked found codes top few best begun =
         let told : cond (ltb plus minus) 1 0 ≡ mark_of mask s = rw (is-plus, is-minus) in
         let m : mark ≡ mark_of mask s = marked ∙ told in
         let fs = map (flag_of mask (mark_of mask s)) s in
-        let f : marks_of zero' 0 1 s ≡ fs = ap (λ (z : ℕ). marks_of z 0 1 s) (zeroed ∙ ap (λ (k : ℕ). zero_of mask k 0) told) in
-        let r : RunsAre fs count runs = rw f at found in
+        let r : RunsAre fs count runs = rw told at found in
         let g : bits_with extra (take count runs) ≡ rice_bits mask (mark_of mask s) s =
         λ i S.
         ap₂ ◌+◌ (codes.says S ∙ ap (λ (k : ℕ). length (code_of k S)) (sym size))
@@ -101,17 +94,14 @@ module _ (mask : ℕ) (s : List ℕ) where
         best.s ∙ ap (λ (h : ℕ → ℕ). least_from h 1 2 (most - 1)) g
         ∙ ap (λ (k : ℕ). least_from weigh 1 2 (k - 1)) (top ∙ ap most_s (sym size)) in
         record {
-          rice = λ h.
-              record {
-                mark = m;
-                best = b;
-                to = omega (arith, best.to);
-                most = rw (size, ← top) best.to;
-                from = best.from;
-                found = r;
-                bits =
-                    ap₂ ◌+◌ (begun.says (mark_of mask s) ∙ ap (λ (k : ℕ). length (rice_code k (mark_of mask s))) (sym size))
-                    (best.bits ∙ ap (λ (h : ℕ → ℕ). h least.s) g ∙ ap weigh b) ∙ sym rice-sum;
-              };
+          mark = m;
+          best = b;
+          to = omega (arith, best.to);
+          most = rw (size, ← top) best.to;
+          from = best.from;
+          found = r;
+          bits =
+              ap₂ ◌+◌ (begun.says (mark_of mask s) ∙ ap (λ (k : ℕ). length (rice_code k (mark_of mask s))) (sym size))
+              (best.bits ∙ ap (λ (h : ℕ → ℕ). h least.s) g ∙ ap weigh b) ∙ sym rice-sum;
           small = omega (arith, best.small, begun.small);
         }

@@ -1,12 +1,12 @@
 -- A frame of the two zeros, and what Rice would write of it.
 use Rattle.std.specs.Prelude.{ℕ, ◌-◌, ◌/◌, ◌≤◌, ◌≡◌, List, map, Bool, true, cond, length}
-use Rattle.rules.specs.Tools.{holds}
 use Rattle.rules.specs.Samples.{plus_zero, minus_zero}
 use Rattle.rules.specs.First.{rice_code}
 use Rattle.rules.specs.Zeros.{most_s, flag_of}
 use Rattle.rules.specs.Chooses.{mark_of, best_s, rice_choice}
 use Rattle.write_scan.specs.Looks.{count_is, two_zeros}
 use Rattle.write_runs.specs.Runs.{RunsAre}
+use Rattle.write_scan.specs.declared.row.Row.{Row}
 use Rattle.write_scan.specs.Rows.{RowIs}
 use Rattle.write_zeros.specs.declared.Zeros.{Zeros}
 
@@ -15,12 +15,12 @@ abbrev pub turns_of : Bool → List ℕ → List ℕ
 turns_of turn flags = map (λ f. cond turn (1 - f) f) flags
 
 -- a frame of the two zeros: how many there are of each, and the row of flags that are 1 at minus zero
-pub record ZerosAre (mask n p m : ℕ) (words s : List ℕ) : Type 0 where
+pub record ZerosAre (mask n p m : ℕ) (row : Row) (s : List ℕ) : Type 0 where
   pub size : length s ≡ n
   pub zeros : two_zeros mask s ≡ true
   pub plus : p ≡ count_is (plus_zero mask) s
   pub minus : m ≡ count_is (minus_zero mask) s
-  pub row : RowIs (map (flag_of mask 0) s) (n / 40) words
+  pub flags : RowIs (map (flag_of mask 0) s) (n / 40) row
 
 -- the bits before it
 pub record StartIs (n r : ℕ) : Type 0 where
@@ -36,7 +36,4 @@ pub record RiceIs (mask : ℕ) (s : List ℕ) (r : Zeros) (runs : List ℕ) : Ty
   pub from : 1 ≤ r.s
   pub found : RunsAre (map (flag_of mask (mark_of mask s)) s) r.count runs
   pub bits : r.bits ≡ length (rice_choice mask s)
-
-pub record RiceFor (mask set : ℕ) (s : List ℕ) (r : Zeros) (runs : List ℕ) : Type 0 where
-  pub rice : holds set 6 ≡ true → RiceIs mask s r runs
   pub small : r.bits ≤ 1000000000

@@ -1,36 +1,15 @@
 // A frame of the two zeros: what Rice would write of it.
 #![tactic(auto)]
 
-ghost use Rattle.std.specs.Prelude.{◌≡◌, cond, List, ℕ, ◌+◌, ◌^◌, ◌/◌, ◌≤◌, ◌<◌, length, get_or, take, ltb};
-ghost use Rattle.rules.specs.Tools as tools;
-ghost use Rattle.rules.specs.Bits.{low_bits};
-ghost use Rattle.rules.specs.Zeros.{zero_of};
-ghost use Rattle.write_scan.specs.Rows.{Gathers, row_bits, RowIs};
-ghost use Rattle.write_zeros.specs.Rice.{turns_of, ZerosAre, StartIs, RiceFor};
+ghost use Rattle.std.specs.Prelude.{◌≡◌, List, ℕ, ◌≤◌, true};
+ghost use Rattle.write_scan.specs.Rows.{flags_in, RowIs};
+ghost use Rattle.write_runs.specs.Runs.{RunsAre};
+ghost use Rattle.write_zeros.specs.Rice.{turns_of, ZerosAre, StartIs, RiceIs};
 
-use first_octet::holds;
-use law::{minus_zero, plus_zero};
 use s_codes::{lengths_of, most_s};
 use write_measure::least_s;
 use write_runs::runs_in;
-
-// "the commoner zero, plus on a tie": the mark that is written is 1 where it is minus.
-fn mark_of(plus: usize, minus: usize) -> usize
-    ensures { (result ≡ cond (ltb plus minus) 1 0) × (result < 2) }
-{
-    if plus < minus { 1 } else { 0 }
-}
-
-// "the commoner zero, plus on a tie": the zero whose places are counted as the common kind.
-fn common_zero(mask: u8, plus: usize, minus: usize) -> u8
-    requires { mask < 128 }
-    ensures { result ≡ zero_of mask (cond (ltb plus minus) 1 0) 0 }
-{
-    if minus <= plus {
-        return plus_zero(mask);
-    }
-    minus_zero(mask)
-}
+use write_scan::row::Row;
 
 // The bits before the code of S: the length code, and three more.
 fn start_bits(n: usize) -> usize
@@ -40,6 +19,7 @@ fn start_bits(n: usize) -> usize
 }
 
 // What Rice writes of a frame of the two zeros: its bits, the mark, S and how many runs.
+// The mark is a number and no bool: it is a bit of the form, put out as a number.
 #[derive(Clone, Copy, Drop)]
 pub struct Zeros {
     pub bits: usize,
@@ -48,63 +28,44 @@ pub struct Zeros {
     pub count: usize,
 }
 
-// A word of 40 flags, every one turned or none.
-fn turned(w: u64, turn: bool) -> u64
-    requires { w < 2 ^ 40 }
-    ensures { Gathers (turns_of turn (low_bits 40 w)) 40 result }
+// A row of flags, every one turned.
+fn turned(row: &Row) -> Row
+    ensures { RowIs (turns_of true (flags_in row.now)) row.now.count result }
 {
-    if turn { 0xFFFFFFFFFF - w } else { w }
+    let mut words = row.words;
+    for w in words.iter_mut() {
+        *w = 0xFFFFFFFFFF - *w;
+    }
+    Row {
+        words,
+        count: row.count,
+    }
 }
 
-// A row of flags, every one turned or none.
-fn turned_row(row: &[u64; 8], k: usize, turn: bool) -> [u64; 8]
-    requires k_bound { (k ≤ 8) × (length row.now ≡ 8) }
-    requires by_index { (i : ℕ) → get_or row.now i 0 < 2 ^ 40 }
-    ensures { RowIs (turns_of turn (row_bits (take k row.now))) k result }
+// The runs of a row of flags, every one turned or none.
+fn turned_runs(row: &Row, turn: bool, runs: &mut [u16; 321]) -> usize
+    ensures { RunsAre (turns_of turn (flags_in row.now)) result runs.new }
 {
-    let mut flags = [0u64; 8];
-    let mut i = 0;
-    while i < k {
-        flags[i] = turned(row[i], turn);
-        i += 1;
+    if turn {
+        runs_in(&turned(row), runs)
+    } else {
+        runs_in(row, runs)
     }
-    flags
 }
 
-// Rice, where the set holds it: the runs are left in the lent array. The row's flags are 1 at minus zero; where that is the commoner,
-// they are turned.
-pub fn rice_of(
-    n: usize,
-    mask: u8,
-    set: u32,
-    plus: usize,
-    minus: usize,
-    row: &[u64; 8],
-    runs: &mut [u16; 321],
-) -> Zeros
-    requires n_bound { (n ≤ 320) × ((mask < 128) × (length row.now ≡ 8)) }
-    requires by_index { (i : ℕ) → get_or row.now i 0 < 2 ^ 40 }
-    requires runs_len { length runs.old ≡ 321 }
-    ensures { (s : List ℕ) → ZerosAre mask n plus minus row.now s → RiceFor mask set s result runs.new }
+// Rice: the runs are left in the lent array. "the commoner zero, plus on a tie": the mark is 1 where it is minus. The row's flags are 1 at
+// minus zero; where that is the commoner, they are turned.
+pub fn rice_of(n: usize, plus: usize, minus: usize, row: &Row, runs: &mut [u16; 321]) -> Zeros
+    requires { n ≤ 320 }
+    ensures { (mask : ℕ) (s : List ℕ) → ZerosAre mask n plus minus row.now s → RiceIs mask s result runs.new }
 {
-    if !holds(set, 6) {
-        return Zeros {
-            bits: 0,
-            mark: 0,
-            s: 1,
-            count: 0,
-        };
-    }
-    let mark = mark_of(plus, minus);
-    let zero = common_zero(mask, plus, minus);
-    let flags = turned_row(row, n / 40, zero == minus_zero(mask));
-    let count = runs_in(&flags, n / 40, runs);
-    let extra = lengths_of(n);
-    let least = least_s(runs, count, &extra, most_s(n));
+    let mark = usize::from(plus < minus);
+    let count = turned_runs(row, plus < minus, runs);
+    let least = least_s(&runs[..count], &lengths_of(n), most_s(n));
     Zeros {
         bits: start_bits(n) + least.bits,
-        mark: mark,
+        mark,
         s: least.s,
-        count: count,
+        count,
     }
 }

@@ -11,6 +11,7 @@ use Rattle.rules.proofs.Octets.{Below, below_at}
 use Rattle.rules.proofs.Signed.{LawMask}
 use Rattle.rules.proofs.Fractional.{Among, places-below, radix-range, length-samples_at}
 use Rattle.rules.proofs.FrameRow.{the_row, row-among}
+use Rattle.write_scan.specs.declared.row.Row.{Row}
 use Rattle.write_offers.specs.declared.Choice.{Choice}
 use Rattle.write_choice.specs.declared.plans.Plain.{Plain}
 use Rattle.write_choice.specs.declared.plans.ZerosPlan.{ZerosPlan}
@@ -21,7 +22,7 @@ use Rattle.write_forms.proofs.Whole.{whole-form}
 use Rattle.writer.specs.Answers.{full, plain, fitted, PutsChosen}
 
 -- a plan, as it was told apart
-pub zeros-told : {mask set : ℕ} {s row runs : List ℕ} {p q : ZerosPlan} → p ≡ q → ZerosPlanned mask set s p row runs
+pub zeros-told : {mask set : ℕ} {s runs : List ℕ} {row : Row} {p q : ZerosPlan} → p ≡ q → ZerosPlanned mask set s p row runs
     → ZerosPlanned mask set s q row runs
 zeros-told e h = rw e at h
 
@@ -45,6 +46,10 @@ pub plain-full : {mask set : ℕ} {s : List ℕ} {c : Choice} → Chosen mask se
 plain-full {mask} {set} {s} {c} chosen some most =
     ap (λ f. record { tool = c.tool; bits = f }) (whole-form mask c.tool s some most)
     ∙ ap (λ (k : ℕ). record { tool = k; bits = form_of mask k s }) chosen.tool
+
+-- tools 1 to 4, as a plan
+pub whole-plain : {mask : ℕ} {s : List ℕ} {c : Choice} → (1 ≤ c.tool) × (c.tool ≤ 4) → PlainIs mask s (record { choice = c; row = 0 })
+whole-plain k = record { row = λ e. absurd (omega (arith, e, k.0, k.1)); kind = λ n. k }
 
 -- fractional-bit, where it was chosen
 module _ (mask n : ℕ) (s : List ℕ) (p : Plain) (size : length s ≡ n) (is : PlainIs mask s p) (eleven : p.choice.tool ≡ 11) where

@@ -10,7 +10,7 @@ use lib.Dec.{eqb}
 use lib.Seq.{length-take-le}
 use Rattle.rules.specs.declared.Refusal.{Refusal}
 use Rattle.rules.specs.declared.Refusal.TheVariants.{Length, Room}
-use Rattle.rules.specs.declared.Ending.TheVariants.{Done}
+use Rattle.std.proofs.Common.{Ok}
 use Rattle.rules.specs.declared.WriteAnswer.{WriteAnswer}
 use Rattle.rules.specs.Bits.{low_bits, value_from, octets_for, octets_from, pack}
 use Rattle.rules.specs.Refusals.{verdict}
@@ -39,7 +39,7 @@ unfolding fitting
 no_room w {r} {out} h t = rw (lt-ltb (length out) (octets_for (length w.bits)) h) (refused-writes t)
 
 pub all-written : (w : Written) {r : WriteAnswer} {out out' : List ℕ} {n b t : ℕ} → octets_for (length w.bits) ≤ length out
-    → Packed w.bits out out' n → b ≡ length w.bits → t ≡ w.tool → r ≡ record { end = Done; octets = n; bits = b; tool = t }
+    → Packed w.bits out out' n → b ≡ length w.bits → t ≡ w.tool → r ≡ record { end = Ok tt; octets = n; bits = b; tool = t }
     → Writes (fitting (length out) w) r out out'
 unfolding fitting
 all-written w {r} {out} {out'} {n} h p size tool told =
@@ -90,7 +90,7 @@ module _ {mask set need : ℕ} {s out out' : List ℕ} {c : Choice} (p : PutsCho
       rw same (no_room (full mask set s) few t)
 
   pub chosen-written : {r : WriteAnswer} → need ≤ length out'
-      → r ≡ record { end = Done; octets = need; bits = c.bits; tool = c.tool }
+      → r ≡ record { end = Ok tt; octets = need; bits = c.bits; tool = c.tool }
       → Writes (fitting (length out) (full mask set s)) r out out'
   unfolding fitted
   chosen-written h told =
@@ -118,7 +118,7 @@ set_first [] n = absurd (n refl)
 set_first (x ∷ l) n = refl
 
 -- "Order: LAW, SET, then LENGTH"
-module _ (n : ℕ) (samples : List ℕ) (law set room : ℕ) (lawful : verdict (writer_asks law set) ≡ Done) where
+module _ (n : ℕ) (samples : List ℕ) (law set room : ℕ) (lawful : verdict (writer_asks law set) ≡ Ok tt) where
   pub write-pad : n ≡ 0 → fitting room pad ≡ write_one n samples law set room
   unfolding fitting chosen
   write-pad h = sym (write_allowed n samples law set room lawful ∙ rw h)

@@ -1,30 +1,30 @@
 // Writing one frame: plan, room, put. The chosen form alone is put out.
 #![tactic(auto)]
 
-ghost use Rattle.std.specs.Prelude.{◌≡◌, true, ◌*◌, ◌≤◌, length, take};
-ghost use Rattle.rules.specs.declared.Ending.TheVariants.{Done};
+ghost use Rattle.std.specs.Prelude.{◌≡◌, true, Ok, ◌*◌, ◌/◌, ◌≤◌, length};
 ghost use Rattle.rules.specs.Bits.{bits_of};
 ghost use Rattle.rules.specs.Refusals.{verdict};
 ghost use Rattle.rules.specs.Tools.{writer_asks};
 ghost use Rattle.rules.specs.Chooses.{declined, form_of};
 ghost use Rattle.rules.specs.Calls.{Writes, WriteFrame, WriteSamples};
 ghost use Rattle.write_scan.specs.Looks.{two_zeros, is_mask, FrameIn};
-ghost use Rattle.write_choice.specs.Plans.{Left, NearFrame, Chosen, PlainIs, Settles};
-ghost use Rattle.write_forms.specs.Forms.{whole_octets, RiceReady, rice_form_of, RowReady, binary_form, LocatedReady, plan_form};
+ghost use Rattle.write_choice.specs.Plans.{Left, NearFrame, KindIs, Chosen, PlainIs};
+ghost use Rattle.write_forms.specs.Forms.{whole_octets, RiceReady, rice_form_of, binary_form, LocatedReady, plan_form};
 ghost use Rattle.writer.specs.Answers.{Tells, fitting, fitted, pad, full, plain, WritesForm, WritesOne, PacksForm, PutsChosen};
 
 use law::{mask_of, plus_zero};
-use rules::{Ending, Frame, Refusal, WriteAnswer, guard_writer, is_length};
+use rules::{Frame, Refusal, WriteAnswer, guard_writer, is_length};
 use write_choice::last::last_of;
 use write_choice::near::near_plan;
 use write_choice::plans::{NearPlan, Plain, ZerosPlan};
-use write_choice::settle::{Settled, choose, is_near};
+use write_choice::settle::{Kind, Settled, choose};
 use write_choice::two_zeros::zeros_plan;
 use write_forms::{put_binary, put_fractional, put_located, put_rice, put_whole};
 use write_located::Located;
 use write_measure::octets_for;
 use write_offers::Choice;
 use write_scan::others;
+use write_scan::row::Row;
 use write_zeros::Zeros;
 
 // A refusal: no octets, no bits, no tool.
@@ -32,7 +32,7 @@ fn refused(why: Refusal) -> WriteAnswer
     ensures { Tells (declined why) result }
 {
     WriteAnswer {
-        end: Ending::Refused(why),
+        end: Err(why),
         octets: 0,
         bits: 0,
         tool: 0,
@@ -41,13 +41,13 @@ fn refused(why: Refusal) -> WriteAnswer
 
 // What was put out.
 fn wrote(octets: usize, bits: usize, tool: u32) -> WriteAnswer
-    ensures { result ≡ record { end = Done; octets = octets; bits = bits; tool = tool } }
+    ensures { result ≡ record { end = Ok tt; octets = octets; bits = bits; tool = tool } }
 {
     WriteAnswer {
-        end: Ending::Done,
-        octets: octets,
-        bits: bits,
-        tool: tool,
+        end: Ok(()),
+        octets,
+        bits,
+        tool,
     }
 }
 
@@ -62,56 +62,41 @@ fn write_pad(out: &mut [u8]) -> WriteAnswer
     wrote(1, 8, 0)
 }
 
-// "ROOM means the chosen form's octets for a writer": a form is put where there is room for it, else nothing is. Tools 1 to 4.
-fn fit_whole(out: &mut [u8], samples: &[u8], n: usize, c: Choice)
-    requires frame_in { (FrameIn samples.now n) × ((1 ≤ c.tool) × (c.tool ≤ 4)) }
-    requires bits_value { (c.bits ≡ length (bits_of (whole_octets c.tool (take n samples.now)))) × (c.bits ≤ 1000000000) }
-    ensures { out.new ≡ fitted (bits_of (whole_octets c.tool (take n samples.now))) out.old }
-{
-    if out.len() < octets_for(c.bits) {
-        return;
-    }
-    put_whole(out, samples, n, c.tool);
-}
-
 // A plan that needs no runs put out: whole octets, or fractional-bit with its row. Their number comes back.
-fn put_plain(out: &mut [u8], samples: &[u8], n: usize, mask: u8, p: Plain) -> usize
-    requires frame_in { (FrameIn samples.now n) × (is_mask mask ≡ true) }
-    requires plain_is { PlainIs mask (take n samples.now) p }
-    requires samples_len_bound { length (form_of mask p.choice.tool (take n samples.now)) ≤ 8 * length out.old }
-    ensures { PacksForm mask p.choice.tool (take n samples.now) out.old out.new result }
+fn put_plain(out: &mut [u8], frame: &[u8], mask: u8, p: Plain) -> usize
+    requires frame_in { (FrameIn frame.now) × (is_mask mask ≡ true) }
+    requires plain_is { PlainIs mask frame.now p }
+    requires samples_len_bound { length (form_of mask p.choice.tool frame.now) ≤ 8 * length out.old }
+    ensures { PacksForm mask p.choice.tool frame.now out.old out.new result }
 {
-    let choice = p.choice;
-    if choice.tool != 11 {
-        return put_whole(out, samples, n, choice.tool);
+    if p.choice.tool == 11 {
+        put_fractional(out, frame, mask, p.row)
+    } else {
+        put_whole(out, frame, p.choice.tool)
     }
-    put_fractional(out, samples, n, mask, p.row)
 }
 
-// Room, and then such a plan put.
-fn fit_plain(out: &mut [u8], samples: &[u8], n: usize, mask: u8, set: u32, p: Plain) -> Choice
-    requires frame_in { (FrameIn samples.now n) × (is_mask mask ≡ true) }
-    requires chosen { (Chosen mask set (take n samples.now) p.choice) × (PlainIs mask (take n samples.now) p) }
-    ensures { PutsChosen mask set (take n samples.now) out.old out.new result }
+// "ROOM means the chosen form's octets for a writer": a form is put where there is room for it, else nothing is. Such a plan.
+fn fit_plain(out: &mut [u8], frame: &[u8], mask: u8, set: u32, p: Plain) -> Choice
+    requires frame_in { (FrameIn frame.now) × (is_mask mask ≡ true) }
+    requires chosen { (Chosen mask set frame.now p.choice) × (PlainIs mask frame.now p) }
+    ensures { PutsChosen mask set frame.now out.old out.new result }
 {
-    let choice = p.choice;
-    if out.len() < octets_for(choice.bits) {
-        return choice;
+    if out.len() < octets_for(p.choice.bits) {
+        return p.choice;
     }
-    put_plain(out, samples, n, mask, p);
-    choice
+    put_plain(out, frame, mask, p);
+    p.choice
 }
 
 // Room, and then binary put, from the row of flags.
-fn fit_binary(out: &mut [u8], n: usize, bits: usize, row: &[u64; 8])
-    requires row_ready { (RowReady n row.now) × (bits ≤ 1000000000) }
-    requires bits_value { bits ≡ length (binary_form n row.now) }
+fn fit_binary(out: &mut [u8], n: usize, bits: usize, row: &Row)
+    requires { (bits ≡ length (binary_form n row.now)) × (bits ≤ 1000000000) }
     ensures { out.new ≡ fitted (binary_form n row.now) out.old }
 {
-    if out.len() < octets_for(bits) {
-        return;
+    if octets_for(bits) <= out.len() {
+        put_binary(out, n, row);
     }
-    put_binary(out, n, row);
 }
 
 // Room, and then Rice put, from its runs.
@@ -120,35 +105,28 @@ fn fit_rice(out: &mut [u8], n: usize, plan: Zeros, runs: &[u16; 321])
     requires bits_value { plan.bits ≡ length (rice_form_of n plan runs.now) }
     ensures { out.new ≡ fitted (rice_form_of n plan runs.now) out.old }
 {
-    if out.len() < octets_for(plan.bits) {
-        return;
+    if octets_for(plan.bits) <= out.len() {
+        put_rice(out, n, plan, runs);
     }
-    put_rice(out, n, plan, runs);
 }
 
 // A frame of the two zeros: plan, room, put. Its flags are gathered once, for the plan and for binary.
-fn fit_zeros(out: &mut [u8], samples: &[u8], n: usize, mask: u8, set: u32) -> Choice
-    requires frame_in { (FrameIn samples.now n) × (is_mask mask ≡ true) }
-    requires left { (Left mask set (take n samples.now)) × (two_zeros mask (take n samples.now) ≡ true) }
-    ensures { PutsChosen mask set (take n samples.now) out.old out.new result }
+fn fit_zeros(out: &mut [u8], frame: &[u8], mask: u8, set: u32) -> Choice
+    requires frame_in { (FrameIn frame.now) × (is_mask mask ≡ true) }
+    requires left { (Left mask set frame.now) × (two_zeros mask frame.now ≡ true) }
+    ensures { PutsChosen mask set frame.now out.old out.new result }
 {
-    let row = others(samples, n / 40, plus_zero(mask));
+    let row = others(frame, plus_zero(mask));
     let mut runs = [0u16; 321];
-    let plan = zeros_plan(samples, n, mask, set, &row, &mut runs);
+    let plan = zeros_plan(frame, mask, set, &row, &mut runs);
     match plan {
-        ZerosPlan::Whole(c) => {
-            fit_whole(out, samples, n, c);
-            c
-        }
+        ZerosPlan::Whole(choice) => fit_plain(out, frame, mask, set, Plain { choice, row: 0 }),
         ZerosPlan::Binary(bits) => {
-            fit_binary(out, n, bits, &row);
-            Choice {
-                tool: 5,
-                bits: bits,
-            }
+            fit_binary(out, frame.len(), bits, &row);
+            Choice { tool: 5, bits }
         }
         ZerosPlan::Rice(z) => {
-            fit_rice(out, n, z, &runs);
+            fit_rice(out, frame.len(), z, &runs);
             Choice {
                 tool: 6,
                 bits: z.bits,
@@ -170,26 +148,25 @@ fn fit_values(
     requires bits_value { plan.bits ≡ length (plan_form n plan a.now b.now c.now) }
     ensures { out.new ≡ fitted (plan_form n plan a.now b.now c.now) out.old }
 {
-    if out.len() < octets_for(plan.bits) {
-        return;
+    if octets_for(plan.bits) <= out.len() {
+        put_located(out, n, plan, a, b, c);
     }
-    put_located(out, n, plan, a, b, c);
 }
 
 // A frame from -2 to 1 that has a 1 or a -2: plan, room, put.
-fn fit_near(out: &mut [u8], samples: &[u8], n: usize, mask: u8, set: u32) -> Choice
-    requires frame_in { (FrameIn samples.now n) × (is_mask mask ≡ true) }
-    requires left { (Left mask set (take n samples.now)) × (NearFrame mask (take n samples.now)) }
-    ensures { PutsChosen mask set (take n samples.now) out.old out.new result }
+fn fit_near(out: &mut [u8], frame: &[u8], mask: u8, set: u32) -> Choice
+    requires frame_in { (FrameIn frame.now) × (is_mask mask ≡ true) }
+    requires left { (Left mask set frame.now) × (NearFrame mask frame.now) }
+    ensures { PutsChosen mask set frame.now out.old out.new result }
 {
     let mut a = [0u16; 321];
     let mut b = [0u16; 321];
     let mut c = [0u16; 321];
-    let plan = near_plan(samples, n, mask, set, &mut a, &mut b, &mut c);
+    let plan = near_plan(frame, mask, set, &mut a, &mut b, &mut c);
     match plan {
-        NearPlan::Last(p) => fit_plain(out, samples, n, mask, set, p),
+        NearPlan::Last(p) => fit_plain(out, frame, mask, set, p),
         NearPlan::Values(w) => {
-            fit_values(out, n, w, &a, &b, &c);
+            fit_values(out, frame.len(), w, &a, &b, &c);
             Choice {
                 tool: 7,
                 bits: w.bits,
@@ -200,44 +177,41 @@ fn fit_near(out: &mut [u8], samples: &[u8], n: usize, mask: u8, set: u32) -> Cho
 
 // A frame that the look leaves: what is planned is put out where it fits, and comes back in any case. Arrays for runs are made only
 // where a plan needs them.
-fn fit_left(out: &mut [u8], samples: &[u8], n: usize, mask: u8, set: u32, seen: Settled) -> Choice
-    requires frame_in { (FrameIn samples.now n) × (is_mask mask ≡ true) }
-    requires settles { (Settles mask set (take n samples.now) seen) × (seen.tool ≡ 0) }
-    ensures { PutsChosen mask set (take n samples.now) out.old out.new result }
+fn fit_left(out: &mut [u8], frame: &[u8], mask: u8, set: u32, kind: Kind) -> Choice
+    requires frame_in { (FrameIn frame.now) × (is_mask mask ≡ true) }
+    requires kind_is { KindIs mask set frame.now kind }
+    ensures { PutsChosen mask set frame.now out.old out.new result }
 {
-    if seen.zeros {
-        return fit_zeros(out, samples, n, mask, set);
+    match kind {
+        Kind::TwoZeros => fit_zeros(out, frame, mask, set),
+        Kind::Near => fit_near(out, frame, mask, set),
+        Kind::Other => {
+            let last = last_of(frame, mask, set);
+            fit_plain(out, frame, mask, set, last)
+        }
     }
-    if is_near(seen.close, n) {
-        return fit_near(out, samples, n, mask, set);
-    }
-    let last = last_of(samples, n, mask, set);
-    fit_plain(out, samples, n, mask, set, last)
 }
 
 // A frame that the look settles: its answer at once.
-fn write_whole(out: &mut [u8], samples: &[u8], n: usize, tool: u32, bits: usize) -> WriteAnswer
-    requires frame_in { (FrameIn samples.now n) × ((1 ≤ tool) × (tool ≤ 4)) }
-    requires bits_value { (bits ≡ length (bits_of (whole_octets tool (take n samples.now)))) × (bits ≤ 1000000000) }
-    ensures { WritesForm (plain tool (take n samples.now)) out.old out.new result }
+fn write_whole(out: &mut [u8], frame: &[u8], c: Choice) -> WriteAnswer
+    requires frame_in { (FrameIn frame.now) × ((1 ≤ c.tool) × (c.tool ≤ 4)) }
+    requires bits_value { (c.bits ≡ length (bits_of (whole_octets c.tool frame.now))) × (c.bits ≤ 1000000000) }
+    ensures { WritesForm (plain c.tool frame.now) out.old out.new result }
 {
-    if out.len() < octets_for(bits) {
+    if out.len() < octets_for(c.bits) {
         return refused(Refusal::Room);
     }
-    let octets = put_whole(out, samples, n, tool);
-    wrote(octets, bits, tool)
+    let octets = put_whole(out, frame, c.tool);
+    wrote(octets, c.bits, c.tool)
 }
 
 // The answer for what was planned: ROOM, or that it was put out.
-fn write_chosen(out: &mut [u8], samples: &[u8], n: usize, mask: u8, set: u32) -> WriteAnswer
-    requires { (FrameIn samples.now n) × (is_mask mask ≡ true) }
-    ensures { WritesForm (full mask set (take n samples.now)) out.old out.new result }
+fn write_left(out: &mut [u8], frame: &[u8], mask: u8, set: u32, kind: Kind) -> WriteAnswer
+    requires frame_in { (FrameIn frame.now) × (is_mask mask ≡ true) }
+    requires kind_is { KindIs mask set frame.now kind }
+    ensures { WritesForm (full mask set frame.now) out.old out.new result }
 {
-    let seen = choose(samples, n, mask, set);
-    if seen.tool != 0 {
-        return write_whole(out, samples, n, seen.tool, seen.bits);
-    }
-    let choice = fit_left(out, samples, n, mask, set, seen);
+    let choice = fit_left(out, frame, mask, set, kind);
     let octets = octets_for(choice.bits);
     if out.len() < octets {
         return refused(Refusal::Room);
@@ -245,9 +219,21 @@ fn write_chosen(out: &mut [u8], samples: &[u8], n: usize, mask: u8, set: u32) ->
     wrote(octets, choice.bits, choice.tool)
 }
 
-// After LAW and SET: LENGTH, and ROOM last.
+// The answer for a frame: it is looked at, and settled or planned.
+fn write_chosen(out: &mut [u8], frame: &[u8], mask: u8, set: u32) -> WriteAnswer
+    requires { (FrameIn frame.now) × (is_mask mask ≡ true) }
+    ensures { WritesForm (full mask set frame.now) out.old out.new result }
+{
+    match choose(frame, mask, set) {
+        Settled::Tool(choice) => write_whole(out, frame, choice),
+        Settled::Of(kind) => write_left(out, frame, mask, set, kind),
+    }
+}
+
+// The first n samples as a frame. After LAW and SET: LENGTH, and ROOM last.
+// n stands beside the samples: it is the caller's, and LENGTH is judged before a slice is made of it.
 fn write_lawful(samples: &[u8], n: usize, law: u32, set: u32, out: &mut [u8]) -> WriteAnswer
-    requires { (verdict (writer_asks law set) ≡ Done) × (n ≤ 320 → n ≤ length samples.now) }
+    requires { (verdict (writer_asks law set) ≡ Ok tt) × (n ≤ 320 → n ≤ length samples.now) }
     ensures { WritesOne n samples.now law set out.old out.new result }
 {
     if n == 0 {
@@ -256,17 +242,19 @@ fn write_lawful(samples: &[u8], n: usize, law: u32, set: u32, out: &mut [u8]) ->
     if !is_length(n) {
         return refused(Refusal::Length);
     }
-    write_chosen(out, samples, n, mask_of(law), set)
+    let frame = &samples[..n];
+    write_chosen(out, frame, mask_of(law), set)
 }
 
 // The first n samples as a frame: "Order: LAW, SET, then LENGTH".
+// n stands beside, as of `write_lawful`.
 fn write_some(samples: &[u8], n: usize, law: u32, set: u32, out: &mut [u8]) -> WriteAnswer
     requires { n ≤ 320 → n ≤ length samples.now }
     ensures { WritesOne n samples.now law set out.old out.new result }
 {
     match guard_writer(law, set) {
-        Ending::Refused(why) => refused(why),
-        Ending::Done => write_lawful(samples, n, law, set, out),
+        Ok(()) => write_lawful(samples, n, law, set, out),
+        Err(why) => refused(why),
     }
 }
 
@@ -274,8 +262,7 @@ fn write_some(samples: &[u8], n: usize, law: u32, set: u32, out: &mut [u8]) -> W
 pub fn write_frame(frame: Frame, law: u32, set: u32, out: &mut [u8]) -> WriteAnswer
     ensures { WriteFrame frame law set out.old out.new result }
 {
-    let samples = frame.samples;
-    write_some(&samples, frame.len, law, set, out)
+    write_some(&frame.samples, frame.len, law, set, out)
 }
 
 // Writing the samples of a slice, whose length is the frame's.

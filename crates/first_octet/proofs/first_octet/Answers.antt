@@ -20,8 +20,8 @@ returns-then-t-eq6 c =
     rw (ne_eqb _ _ c.if-e-eq0.false, ne_eqb _ _ c.if-e-eq1.false, eq-eqb _ _ c.if-t-eq6.true)
     at c.entry-e.ensures
 
-pub returns : goal.returns
+pub returns-else-t-eq6 : goal.returns-else-t-eq6
 unfolding entry_tells
-returns c =
+returns-else-t-eq6 c =
     rw (ne_eqb _ _ c.if-e-eq0.false, ne_eqb _ _ c.if-e-eq1.false, ne_eqb _ _ c.if-t-eq6.false)
     at c.entry-e.ensures

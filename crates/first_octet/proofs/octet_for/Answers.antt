@@ -15,8 +15,8 @@ overflow_add-result-then-n-lt240 c = omega (arith, base-small c.args.n)
 pub returns-then-n-lt240 : goal.returns-then-n-lt240
 returns-then-n-lt240 c = rw (eq-eqb _ _ c.if-t-ne7.false, lt-leb _ _ c.if-n-lt240.true) (omega arith)
 
-pub overflow_add-result-2 : goal.overflow_add-result-2
-overflow_add-result-2 c = omega (arith, base-small c.args.n)
+pub returns-else-n-lt240 : goal.returns-else-n-lt240
+returns-else-n-lt240 c = rw (eq-eqb _ _ c.if-t-ne7.false, le-leb _ _ c.if-n-lt240.false) (omega arith)
 
-pub returns : goal.returns
-returns c = rw (eq-eqb _ _ c.if-t-ne7.false, le-leb _ _ c.if-n-lt240.false) (omega arith)
+pub overflow_add-result-else-n-lt240 : goal.overflow_add-result-else-n-lt240
+overflow_add-result-else-n-lt240 c = omega (arith, base-small c.args.n)

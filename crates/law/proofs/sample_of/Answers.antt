@@ -21,13 +21,10 @@ pub returns-then-v-lt0 : goal.returns-then-v-lt0
 unfolding sample_of
 returns-then-v-lt0 c = rw (under c).bits (sym (ap (sample_of c.args.mask) (under c).is))
 
-pub overflow_cast-result-2 : goal.overflow_cast-result-2
-overflow_cast-result-2 c = rw (over c).bits (tt, record { fits = omega (arith, (over c).small) })
-
 pub overflow_add-result : goal.overflow_add-result
 overflow_add-result c =
     rw (over c).bits (record { fits = omega (arith, xor_lt 7 (over c).y c.args.mask (over c).small c.requires) })
 
-pub returns : goal.returns
+pub returns-else-v-lt0 : goal.returns-else-v-lt0
 unfolding sample_of
-returns c = rw (over c).bits (sym (ap (sample_of c.args.mask) (over c).is))
+returns-else-v-lt0 c = rw (over c).bits (sym (ap (sample_of c.args.mask) (over c).is))

@@ -4,5 +4,5 @@ use Rattle.linear.proofs.constants_of.Goals as goal
 pub returns-then-law-eq0 : goal.returns-then-law-eq0
 returns-then-law-eq0 c = rw (eq-eqb _ _ c.if-law-eq0.true)
 
-pub returns : goal.returns
-returns c = rw (ne_eqb _ _ c.if-law-eq0.false)
+pub returns-else-law-eq0 : goal.returns-else-law-eq0
+returns-else-law-eq0 c = rw (ne_eqb _ _ c.if-law-eq0.false)

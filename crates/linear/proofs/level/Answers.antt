@@ -7,5 +7,5 @@ use Rattle.linear.proofs.level.Goals as goal
 pub returns-then-c-lt16 : goal.returns-then-c-lt16
 returns-then-c-lt16 c = sym (level-low c.args.c (omega arith))
 
-pub returns : goal.returns
-returns c = level-shifted c.args.c (omega arith) (omega arith)
+pub returns-else-c-lt16 : goal.returns-else-c-lt16
+returns-else-c-lt16 c = level-shifted c.args.c (omega arith) (omega arith)

@@ -1,5 +1,6 @@
 use native.Mathlib.Omega.{arith}
-use mathlib.Core.Path.{◌∙◌}
+use mathlib.Core.Path.{◌≡◌, ◌∙◌}
+use Rattle.linear.specs.Constants.{level_of}
 use Prim.Native.Nat.{ℕ, ◌+◌, ◌-◌, ◌%◌}
 use lib.Bits.{bit_xor}
 use mir.Syntax.{w16}
@@ -19,8 +20,11 @@ code c = bit_xor c.args.octet
     c.constants_of-l.result.mask % 128
     + c.constants_of-l.result.step
 
+levelled : (c : After-struct_known-3-1) → c.level.result ≡ level_of (code c)
+levelled c = rw c.from-y.ensures at c.level.ensures
+
 range : (c : After-struct_known-3-1) → Level (code c) c.level.result
-range c = rw c.level.ensures (level-range _ (omega (arith, sound-as c.args.law c.constants_of-l.ensures)))
+range c = rw (levelled c) (level-range _ (omega (arith, sound-as c.args.law c.constants_of-l.ensures)))
 
 pub overflow_cast-c : goal.overflow_cast-c
 overflow_cast-c c = record { fits = omega (arith, small c) }
@@ -43,13 +47,15 @@ overflow_cast-v-2 c = record { sfits = omega (arith, range c) }
 pub returns-then-octet-ge128 : goal.returns-then-octet-ge128
 returns-then-octet-ge128 c =
     to_z_pos w16 (omega (arith, range (goal.at.returns-then-octet-ge128 c).After-struct_known-3-1))
-    ∙ linear-above c.args.law c.constants_of-l.ensures (omega arith) (omega arith) c.level.ensures
+    ∙ linear-above c.args.law c.constants_of-l.ensures (omega arith) (omega arith)
+    (levelled (goal.at.returns-then-octet-ge128 c).After-struct_known-3-1)
 
 pub overflow_sub-result : goal.overflow_sub-result
 overflow_sub-result c =
     (minus w16 (c.level.result - c.constants_of-l.result.bias) (omega (arith, range (goal.at.overflow_sub-result c).After-struct_known-3-1))).fits
 
-pub returns : goal.returns
-returns c =
-    (minus w16 (c.level.result - c.constants_of-l.result.bias) (omega (arith, range (goal.at.returns c).After-struct_known-3-1))).is
-    ∙ linear-below c.args.law c.constants_of-l.ensures (omega arith) (omega arith) c.level.ensures
+pub returns-else-octet-ge128 : goal.returns-else-octet-ge128
+returns-else-octet-ge128 c =
+    (minus w16 (c.level.result - c.constants_of-l.result.bias) (omega (arith, range (goal.at.returns-else-octet-ge128 c).After-struct_known-3-1))).is
+    ∙ linear-below c.args.law c.constants_of-l.ensures (omega arith) (omega arith)
+    (levelled (goal.at.returns-else-octet-ge128 c).After-struct_known-3-1)

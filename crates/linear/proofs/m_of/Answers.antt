@@ -26,18 +26,18 @@ pub returns-then-v-lt0 : goal.returns-then-v-lt0
 unfolding m_of
 returns-then-v-lt0 c =
     let l = c.args.l in
-    c.clipped.ensures ∙ ap (λ n. min (n + l.bias) l.top) (size_below (under (goal.at.returns-then-v-lt0 c).Then-v-lt0))
+    c.min.ensures ∙ ap (λ n. min (n + l.bias) l.top) (size_below (under (goal.at.returns-then-v-lt0 c).Then-v-lt0))
 
-pub overflow_cast-v-2 : goal.overflow_cast-v-2
-overflow_cast-v-2 c = rw (over c).bits (tt, record { fits = omega (arith, (over c).small) })
+pub overflow_cast-v-else-v-lt0 : goal.overflow_cast-v-else-v-lt0
+overflow_cast-v-else-v-lt0 c = rw (over c).bits (tt, record { fits = omega (arith, (over c).small) })
 
-pub overflow_add-v-2 : goal.overflow_add-v-2
-overflow_add-v-2 c =
-    rw (over (goal.at.overflow_add-v-2 c).Else-v-lt0).bits (record
-    { fits = omega (arith, (over (goal.at.overflow_add-v-2 c).Else-v-lt0).small) })
+pub overflow_add-v-else-v-lt0 : goal.overflow_add-v-else-v-lt0
+overflow_add-v-else-v-lt0 c =
+    rw (over (goal.at.overflow_add-v-else-v-lt0 c).Else-v-lt0).bits (record
+    { fits = omega (arith, (over (goal.at.overflow_add-v-else-v-lt0 c).Else-v-lt0).small) })
 
-pub returns : goal.returns
+pub returns-else-v-lt0 : goal.returns-else-v-lt0
 unfolding m_of
-returns c =
+returns-else-v-lt0 c =
     let l = c.args.l in
-    c.clipped-2.ensures ∙ ap (λ n. min (n + l.bias) l.top) (size_above (over (goal.at.returns c).Else-v-lt0))
+    c.min-else-v-lt0.ensures ∙ ap (λ n. min (n + l.bias) l.top) (size_above (over (goal.at.returns-else-v-lt0 c).Else-v-lt0))

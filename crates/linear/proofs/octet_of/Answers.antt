@@ -58,7 +58,7 @@ overflow_add-result c =
       );
     }
 
-pub returns : goal.returns
-returns c =
-    octet-above c.args.law c.constants_of-l.ensures (over c).is (sized (goal.at.returns c).After-m_of-m)
+pub returns-else-x-lt0 : goal.returns-else-x-lt0
+returns-else-x-lt0 c =
+    octet-above c.args.law c.constants_of-l.ensures (over c).is (sized (goal.at.returns-else-x-lt0 c).After-m_of-m)
     c.code_of.ensures

@@ -14,14 +14,14 @@ returns-then-law-eq0 c =
     (raised a.law a.octet (record { sfits = c.linear_of-v.type_inv }) c.linear_of-v.ensures
     (unit-a a.law c.if-law-eq0.true) (omega arith)).is
 
-pub overflow_mul-result-2 : goal.overflow_mul-result-2
-overflow_mul-result-2 c =
+pub overflow_mul-result-else-law-eq0 : goal.overflow_mul-result-else-law-eq0
+overflow_mul-result-else-law-eq0 c =
     let a = c.args in
     (raised a.law a.octet (record { sfits = c.linear_of-v.type_inv }) c.linear_of-v.ensures
     (unit-mu a.law c.if-law-eq0.false) (omega arith)).fits
 
-pub returns : goal.returns
-returns c =
+pub returns-else-law-eq0 : goal.returns-else-law-eq0
+returns-else-law-eq0 c =
     let a = c.args in
     (raised a.law a.octet (record { sfits = c.linear_of-v.type_inv }) c.linear_of-v.ensures
     (unit-mu a.law c.if-law-eq0.false) (omega arith)).is

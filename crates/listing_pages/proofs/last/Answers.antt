@@ -7,5 +7,5 @@ use Rattle.listing_pages.proofs.last.Goals as goal
 pub returns : goal.returns
 returns c =
     let stop = c.stop_line-stop.ensures in
-    let samples = c.samples_line-end.ensures in
-    record { puts = puts_then stop.puts samples.puts; ended = refl; at = refl; frames = refl; samples = refl; most = omega arith }
+    let samples = c.samples_line.ensures in
+    record { puts = puts_then stop.puts samples.puts; ended = refl; most = omega arith }

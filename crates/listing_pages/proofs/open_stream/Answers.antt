@@ -10,4 +10,4 @@ returns-then-stream-gt-MOST_LISTED c = opens_stopped _ c.refused.ensures (too_lo
 pub returns : goal.returns
 returns c =
     let line = c.law_line-to.ensures in
-    opens-stream _ (record { frames = refl; at = refl; samples = refl; goes = refl }) (omega arith) (omega arith) line.puts (omega arith)
+    opens-stream _ _ refl (omega arith) (omega arith) line.puts (omega arith)

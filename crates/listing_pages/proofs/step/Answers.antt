@@ -5,14 +5,15 @@ use Rattle.walk.proofs.Told.{read-bounds}
 use Rattle.listing_pages.proofs.Steps.{left_end, left-refused, step-last, step-frame}
 use Rattle.listing_pages.proofs.step.Goals as goal
 
-pub returns-then-stream-at : goal.returns-then-stream-at
-returns-then-stream-at c =
-    let n = step-last c.args.stream.now c.args.law c.last.ensures c.requires.0 c.requires.1
-    c.requires.2 (left_end c.args.stream.now c.args.law c.args.s c.requires.1 (omega arith)) in record { lists = n.0; less = n.1; size = c.requires.3 }
+pub returns-then-stream-s : goal.returns-then-stream-s
+returns-then-stream-s c =
+    let a = c.args in
+    let n = step-last a.stream.now c.last.ensures c.requires.1 (left_end a.stream.now a.s (omega arith)) in
+    record { lists = n.0; less = n.1; size = c.requires.2 }
 
 pub list_frame-requires : goal.list_frame-requires
 list_frame-requires c =
-    let b = read-bounds _ _ _ _ c.pass-r.ensures.tells c.in-Done.is in
+    let b = read-bounds _ _ _ _ c.pass-r.ensures.tells c.in-Ok.is in
     let p = c.requires.0 in
     let n = length-drop c.args.s.at c.args.stream.now in (
       (
@@ -20,18 +21,19 @@ list_frame-requires c =
         omega (arith, b.inside, p.short),
         omega (arith, b.fits, p.samples, p.frames, p.inside, p.short),
       ),
-      c.requires.2,
+      c.requires.1,
     )
 
-pub returns-in-Refused : goal.returns-in-Refused
-returns-in-Refused c =
-    let r = c.pass-r.ensures in let n = step-last c.args.stream.now c.args.law c.last-in-Refused.ensures c.requires.0 c.requires.1 c.requires.2
-    (rw c.refusal_number.ensures
-    (left-refused c.args.stream.now c.args.law c.args.s c.requires.1 (omega arith) r.tells c.in-Refused.is)) in record
-    { lists = n.0; less = n.1; size = r.size }
+pub returns-in-Err : goal.returns-in-Err
+returns-in-Err c =
+    let a = c.args in
+    let r = c.pass-r.ensures in
+    let n = step-last a.stream.now c.last-in-Err.ensures c.requires.1
+    (rw c.number.ensures (left-refused a.stream.now a.s (omega arith) r.tells c.in-Err.is)) in
+    record { lists = n.0; less = n.1; size = r.size }
 
-pub returns-in-Done : goal.returns-in-Done
-returns-in-Done c =
-    let r = c.pass-r.ensures in let n = step-frame c.args.stream.now c.args.law c.list_frame.ensures c.requires.0 c.requires.1
-    c.requires.2 c.if-stream-at.false r.tells
-    c.in-Done.is in record { lists = n.0; less = n.1; size = r.size }
+pub returns-in-Ok : goal.returns-in-Ok
+returns-in-Ok c =
+    let r = c.pass-r.ensures in
+    let n = step-frame c.args.stream.now c.list_frame.ensures c.requires.0 c.requires.1 c.if-stream-s.false r.tells c.in-Ok.is in
+    record { lists = n.0; less = n.1; size = r.size }

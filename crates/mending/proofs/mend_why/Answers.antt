@@ -10,8 +10,8 @@ use Rattle.mending.proofs.Answers.{declined-told, kept-inside, kept-samples, res
 use Rattle.mending.proofs.mend_why.Goals.{After-walk_on-w, After-fill_octets}
 use Rattle.mending.proofs.mend_why.Goals as goal
 
-pub returns-then-law-gt1 : goal.returns-then-law-gt1
-returns-then-law-gt1 c =
+pub returns-then-law-gt-MOST_LAW : goal.returns-then-law-gt-MOST_LAW
+returns-then-law-gt-MOST_LAW c =
     let a = c.args in
     declined-told c.declined.ensures (no-law a.octets.now a.law a.total (omega arith))
 

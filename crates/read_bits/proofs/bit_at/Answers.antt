@@ -5,4 +5,4 @@ use Rattle.rules.proofs.Octets.{bits_of-at}
 use Rattle.read_bits.proofs.bit_at.Goals as goal
 
 pub returns : goal.returns
-returns c = (rw c.wide.ensures (sym (bits_of-at _ _ (omega arith))), omega arith)
+returns c = (rw c.from.ensures (sym (bits_of-at _ _ (omega arith))), omega arith)

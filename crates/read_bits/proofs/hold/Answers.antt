@@ -1,11 +1,12 @@
 -- A word is opened over the eight octets from the place on (InWord).
 use Prim.Native.Nat.{◌/◌, ◌%◌}
+use mathlib.Core.Path.{refl}
 use native.Mathlib.Omega.{arith}
 use Rattle.read_bits.proofs.InWord.{holds-none, holds_opened}
 use Rattle.read_bits.proofs.hold.Goals as goal
 
 pub returns-then-n-lt32 : goal.returns-then-n-lt32
-returns-then-n-lt32 c = holds-none _ _ _ c.nothing.ensures.0 c.nothing.ensures.1
+returns-then-n-lt32 c = holds-none _ _ _ refl refl
 
 pub returns : goal.returns
 returns c =

@@ -1,12 +1,13 @@
 -- A word is opened over the last eight octets, or over all where they are fewer (InWord).
 use Prim.Native.Nat.{◌*◌, ◌-◌, ◌/◌, ◌%◌}
 use lib.ListN.{length}
+use mathlib.Core.Path.{refl}
 use native.Mathlib.Omega.{arith}
 use Rattle.read_bits.proofs.InWord.{holds-none, holds_opened}
 use Rattle.read_bits.proofs.hold_last.Goals as goal
 
 pub returns-then-size-i : goal.returns-then-size-i
-returns-then-size-i c = holds-none _ _ _ c.nothing.ensures.0 c.nothing.ensures.1
+returns-then-size-i c = holds-none _ _ _ refl refl
 
 pub returns-then-size-lt8 : goal.returns-then-size-lt8
 returns-then-size-lt8 c =

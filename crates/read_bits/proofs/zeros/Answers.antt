@@ -20,7 +20,7 @@ module _ (c : After-next_bits) where
 
 pub loop-place-preserved : goal.loop-place-preserved
 loop-place-preserved c =
-    let l = c.least.ensures in
+    let l = c.min.ensures in
     let i = c.loop-place.invariant.1 in (
       omega arith,
       window_more _ _ _ _ c.next_bits.ensures (leads (goal.at.loop-place-preserved c).After-next_bits) i (omega arith)
@@ -38,13 +38,13 @@ returns-else-n-k c =
 
 pub returns-then-octets-place : goal.returns-then-octets-place
 returns-then-octets-place c =
-    let l = c.least.ensures in
+    let l = c.min.ensures in
     window-short _ _ _ _ c.next_bits.ensures (leads (goal.at.returns-then-octets-place c).After-next_bits) c.loop-place.invariant.1 (omega arith) (omega arith)
     c.missing.ensures (omega arith) (omega arith)
 
 pub returns-then-n-k-2 : goal.returns-then-n-k-2
 returns-then-n-k-2 c =
-    let l = c.least.ensures in
+    let l = c.min.ensures in
     window-all-run _ _ _ _ c.next_bits.ensures (leads (goal.at.returns-then-n-k-2 c).After-next_bits) c.loop-place.invariant.1
     (omega arith) (omega arith) (omega arith)
     (omega arith)

@@ -21,8 +21,8 @@ returns-then-octets-end c =
       next = omega arith;
     }
 
-pub returns : goal.returns
-returns c =
+pub returns-else-octets-end : goal.returns-else-octets-end
+returns-else-octets-end c =
     let a = c.args in
     let ahead = c.next_bits.ensures in
     let f = c.s_in-found.ensures in

@@ -5,5 +5,5 @@ use Rattle.read_bodies.proofs.zero_of.Goals as goal
 pub returns-then-flag-mark : goal.returns-then-flag-mark
 returns-then-flag-mark c = rw (eq-eqb _ _ c.if-flag-mark.true, plus-zero)
 
-pub returns : goal.returns
-returns c = rw (ne_eqb _ _ c.if-flag-mark.false, minus-zero)
+pub returns-else-flag-mark : goal.returns-else-flag-mark
+returns-else-flag-mark c = rw (ne_eqb _ _ c.if-flag-mark.false, minus-zero)

@@ -1,5 +1,5 @@
 use native.Mathlib.Omega.{arith}
-use Rattle.read_bits.proofs.Told.{told, refused}
+use Rattle.read_bits.proofs.Told.{told, refused, handed_on}
 use Rattle.read_fractional.proofs.Turning.{filling-none, packs-small, filling-turn, filling-refused, filling-place}
 use Rattle.read_fractional.proofs.Turning.{filling-all}
 use Rattle.rules.proofs.Fractional.{group-fits}
@@ -17,14 +17,15 @@ number-requires c =
     let p = c.requires.packs in
     (omega (arith, l.near, p.room), omega (arith, p.bits))
 
-pub returns-in-Refused : goal.returns-in-Refused
-returns-in-Refused c =
-    filling-refused c.requires.packs (omega arith) c.loop-filled.invariant (omega arith)
-    (refused c.number.ensures c.in-Refused.is)
+pub returns-in_err-v : goal.returns-in_err-v
+returns-in_err-v c =
+    rw (handed_on c.from_residual.result c.from_residual.ensures.1)
+    (filling-refused c.requires.packs (omega arith) c.loop-filled.invariant (omega arith)
+    (refused c.number.ensures c.in_err-v.was))
 
 pub returns-then-most-v : goal.returns-then-most-v
 returns-then-most-v c =
-    let v = told c.number.ensures c.in-Got.is in
+    let v = told c.number.ensures c.in_ok-v.was in
     let most = c.fifth-most.ensures in
     filling-place c.requires.packs (omega arith) c.loop-filled.invariant (omega arith) v.says (omega (arith, most))
 
@@ -47,7 +48,7 @@ loop-filled-smaller c = omega arith
 
 pub loop-filled-preserved : goal.loop-filled-preserved
 loop-filled-preserved c =
-    let v = told c.number.ensures c.in-Got.is in
+    let v = told c.number.ensures c.in_ok-v.was in
     let most = c.fifth-most.ensures in
     filling-turn c.requires.packs (omega arith) c.loop-filled.invariant (omega arith) v.says (omega (arith, most)) v.next
     c.lay.ensures.0 c.lay.ensures.1

@@ -1,9 +1,12 @@
 -- SET, SHORT, and then what the first octet begins (Headed).
-use Prim.Native.Nat.{ℕ, ◌<◌}
+use Prim.Native.Nat.{ℕ, ◌≤◌, ◌<◌}
 use native.Mathlib.Omega.{arith}
 use mathlib.Core.Path.{◌≡◌, refl, sym, ap, ◌∙◌}
 use mathlib.Core.List.{List}
+use mathlib.Core.Bool.{false}
+use lib.Dec.{eqb}
 use lib.ListN.{get_or}
+use borrow.Author.Tests.{eqb-true, eqb-false}
 use Rattle.rules.specs.Bits.{bits_of}
 use Rattle.first_octet.specs.declared.Begins.{Begins}
 use Rattle.first_octet.specs.declared.Begins.TheVariants.{Unassigned, Pad, Tool, SixOrEight}
@@ -13,11 +16,14 @@ use Rattle.read_head.proofs.Headed.{heads-as, head-set, head-short, headed, head
 use Rattle.read_head.proofs.head.Goals.{After-first_octet}
 use Rattle.read_head.proofs.head.Goals as goal
 
+some-octets : (n : ℕ) → false ≡ eqb n 0 → 1 ≤ n
+some-octets n e = let h = eqb-false n 0 (sym e) in omega arith
+
 pub returns-then-set-gt-ALL_TOOLS : goal.returns-then-set-gt-ALL_TOOLS
 returns-then-set-gt-ALL_TOOLS c = heads-as (head-set _ _ c.if-set-gt-ALL_TOOLS.true) (c.refused.ensures 0)
 
-pub returns-then-octets-eq0 : goal.returns-then-octets-eq0
-returns-then-octets-eq0 c = heads-as (head-short _ _ c.if-set-gt-ALL_TOOLS.false c.if-octets-eq0.true) (c.refused-then-octets-eq0.ensures 0)
+pub returns-then-is_empty : goal.returns-then-is_empty
+returns-then-is_empty c = heads-as (head-short _ _ c.if-set-gt-ALL_TOOLS.false (eqb-true _ 0 (sym c.if-is_empty.ensures))) (c.refused-then-is_empty.ensures 0)
 
 -- what the first octet begins, b
 module _ (c : After-first_octet) (b : Begins) (e : c.first_octet.result ≡ b) where
@@ -28,7 +34,7 @@ module _ (c : After-first_octet) (b : Begins) (e : c.first_octet.result ≡ b) w
   small = omega (arith, c.shared_slice_known-2-1.given 0)
 
   says : head_after c.args.set (as_first (get_or octets 0 0) b) (bits_of octets) 8 ≡ head_of octets c.args.set
-  says = headed octets c.args.set c.if-set-gt-ALL_TOOLS.false (omega arith) small (as_first (get_or octets 0 0) b)
+  says = headed octets c.args.set c.if-set-gt-ALL_TOOLS.false (some-octets _ c.if-is_empty.ensures) small (as_first (get_or octets 0 0) b)
       (sym (ap (as_first (get_or octets 0 0)) e) ∙ c.first_octet.ensures)
 
 pub returns-in-Unassigned : goal.returns-in-Unassigned

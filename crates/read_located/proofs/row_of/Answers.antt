@@ -1,14 +1,14 @@
 -- Row by row (Rows): the values by the case and the flag, then their octets.
 use Prim.Native.Nat.{ℕ, ◌≤◌}
 use mathlib.Core.Path.{◌≡◌, refl}
-use mathlib.Core.List.{List, map}
+use mathlib.Core.List.{List, [], ◌∷◌, map}
 use native.Mathlib.Omega.{arith}
 use Rattle.rules.specs.Samples.{sample_of}
-use Rattle.rules.specs.Located.{RangeCase, case0, case1, case2, case3, case_of, values_of}
+use Rattle.rules.specs.Located.{RangeCase, case1, case2, case3, case_of, values_of}
 use Rattle.read_located.specs.declared.Row.{Row}
 use Rattle.read_located.specs.Valued.{RowOf}
-use Rattle.read_located.proofs.Rows.{Three, three, is-case0, is-case1, is-case2, is-case3}
-use Rattle.read_located.proofs.Rows.{too_short, with-flag, without-flag, no_row, row_as}
+use Rattle.read_located.proofs.Rows.{Three, three, is-case1, is-case2, is-case3}
+use Rattle.read_located.proofs.Rows.{with-flag, without-flag, no_row, row_as, none-as}
 use Rattle.read_located.proofs.row_of.Goals.{Start}
 use Rattle.read_located.proofs.row_of.Goals as goal
 
@@ -25,58 +25,51 @@ module _ (c : Start) where
         → RowOf (map (sample_of c.args.mask) (values_of c.args.n c.args.case c.args.flag)) w
     plain f m t = row_as c.args.mask (without-flag c.args.n c.args.case c.args.flag r e h f) m t
 
+-- a row's first octets
+two_of : (a b d : ℕ) → RowOf (a ∷ b ∷ []) (record { count = 2; octets = a ∷ b ∷ d ∷ [] })
+two_of a b d = record { values = refl; some = omega arith; few = omega arith; room = refl }
+
+one_of : (a b d : ℕ) → RowOf (a ∷ []) (record { count = 1; octets = a ∷ b ∷ d ∷ [] })
+one_of a b d = record { values = refl; some = omega arith; few = omega arith; room = refl }
+
 pub returns-then-n-lt80 : goal.returns-then-n-lt80
 returns-then-n-lt80 c =
-    let a = c.args in
-    row_as a.mask (no_row a.n a.case a.flag (omega arith)) refl c.no_row.ensures
+    let a = c.args in none-as a.mask (no_row a.n a.case a.flag (omega arith)) refl
 
-pub returns-then-n-lt240 : goal.returns-then-n-lt240
-returns-then-n-lt240 c =
-    let a = c.args in
-    row_as a.mask (too_short a.n a.case a.flag case0 (is-case0 a.case (omega arith)) (omega arith)) refl
-    c.no_row-then-n-lt240.ensures
+pub returns-then-case-eq0 : goal.returns-then-case-eq0
+returns-then-case-eq0 c =
+    let e : c.args.case ≡ 0 = omega arith in rw e c.three_values.ensures
 
 pub returns-then-flag-eq1 : goal.returns-then-flag-eq1
 returns-then-flag-eq1 c =
     let t = octets (goal.at.returns-then-flag-eq1 c).Start in
-    flagged (goal.at.returns-then-flag-eq1 c).Start case0 (is-case0 c.args.case (omega arith)) (omega arith) (omega arith)
-    (rw (t.one, t.minus, t.less)) c.some.ensures
+    flagged (goal.at.returns-then-flag-eq1 c).Start case1 (is-case1 c.args.case (omega arith)) (omega arith) (omega arith)
+    (rw (t.one, t.minus)) (two_of _ _ _)
 
-pub returns-then-case-eq0 : goal.returns-then-case-eq0
-returns-then-case-eq0 c =
-    let t = octets (goal.at.returns-then-case-eq0 c).Start in
-    plain (goal.at.returns-then-case-eq0 c).Start case0 (is-case0 c.args.case (omega arith)) (omega arith) (λ e. omega arith)
-    (rw (t.one, t.minus, t.less)) c.some-then-case-eq0.ensures
+pub returns-else-flag-eq1 : goal.returns-else-flag-eq1
+returns-else-flag-eq1 c =
+    let t = octets (goal.at.returns-else-flag-eq1 c).Start in
+    plain (goal.at.returns-else-flag-eq1 c).Start case1 (is-case1 c.args.case (omega arith)) (omega arith) c.if-flag-eq1.false
+    (rw (t.one, t.minus)) (two_of _ _ _)
 
 pub returns-then-flag-eq1-2 : goal.returns-then-flag-eq1-2
 returns-then-flag-eq1-2 c =
-    let t = octets (goal.at.returns-then-flag-eq1-2 c).Start in
-    flagged (goal.at.returns-then-flag-eq1-2 c).Start case1 (is-case1 c.args.case (omega arith)) (omega arith) (omega arith)
-    (rw (t.one, t.minus)) c.some-then-flag-eq1-2.ensures
+    let a = c.args in
+    none-as a.mask (with-flag a.n a.case a.flag case2 (is-case2 a.case (omega arith)) (omega arith) (omega arith)) refl
 
-pub returns-then-case-eq1 : goal.returns-then-case-eq1
-returns-then-case-eq1 c =
-    let t = octets (goal.at.returns-then-case-eq1 c).Start in
-    plain (goal.at.returns-then-case-eq1 c).Start case1 (is-case1 c.args.case (omega arith)) (omega arith) (λ e. omega arith)
-    (rw (t.one, t.minus)) c.some-then-case-eq1.ensures
+pub returns-else-flag-eq1-2 : goal.returns-else-flag-eq1-2
+returns-else-flag-eq1-2 c =
+    let t = octets (goal.at.returns-else-flag-eq1-2 c).Start in
+    plain (goal.at.returns-else-flag-eq1-2 c).Start case2 (is-case2 c.args.case (omega arith)) (omega arith) c.if-flag-eq1-2.false
+    (rw (t.minus, t.less)) (two_of _ _ _)
 
 pub returns-then-flag-eq1-3 : goal.returns-then-flag-eq1-3
 returns-then-flag-eq1-3 c =
-    flagged (goal.at.returns-then-flag-eq1-3 c).Start case2 (is-case2 c.args.case (omega arith)) (omega arith) (omega arith) refl
-    c.no_row-then-flag-eq1-3.ensures
+    let t = octets (goal.at.returns-then-flag-eq1-3 c).Start in
+    flagged (goal.at.returns-then-flag-eq1-3 c).Start case3 (is-case3 c.args.case (omega arith)) (omega arith) (omega arith)
+    (rw t.one) (one_of _ _ _)
 
-pub returns-then-case-eq2 : goal.returns-then-case-eq2
-returns-then-case-eq2 c =
-    let t = octets (goal.at.returns-then-case-eq2 c).Start in
-    plain (goal.at.returns-then-case-eq2 c).Start case2 (is-case2 c.args.case (omega arith)) (omega arith) (λ e. omega arith)
-    (rw (t.minus, t.less)) c.some-then-case-eq2.ensures
-
-pub returns-then-flag-eq1-4 : goal.returns-then-flag-eq1-4
-returns-then-flag-eq1-4 c =
-    let t = octets (goal.at.returns-then-flag-eq1-4 c).Start in
-    flagged (goal.at.returns-then-flag-eq1-4 c).Start case3 (is-case3 c.args.case (omega arith)) (omega arith) (omega arith)
-    (rw t.one) c.some-then-flag-eq1-4.ensures
-
-pub returns : goal.returns
-returns c =
-    plain (goal.at.returns c).Start case3 (is-case3 c.args.case (omega arith)) (omega arith) (λ e. omega arith) refl c.no_row-2.ensures
+pub returns-else-flag-eq1-3 : goal.returns-else-flag-eq1-3
+returns-else-flag-eq1-3 c =
+    let a = c.args in
+    none-as a.mask (without-flag a.n a.case a.flag case3 (is-case3 a.case (omega arith)) (omega arith) c.if-flag-eq1-3.false) refl

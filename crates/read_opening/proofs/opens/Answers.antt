@@ -4,17 +4,17 @@ use Rattle.rules.proofs.Guards.{read-refused, read-allowed}
 use Rattle.read_opening.proofs.opens.Goals as goal
 
 -- refused
-pub returns-in-Refused : goal.returns-in-Refused
-returns-in-Refused c =
+pub returns-in-Err : goal.returns-in-Err
+returns-in-Err c =
     let a = c.args in
-    let e = sym c.guard.ensures ∙ c.in-Refused.is in
+    let e = sym c.guard.ensures ∙ c.in-Err.is in
     record { says = λ room. sym (read-refused a.octets.now a.law a.set room e); ranges = tt }
 
 -- else the frame
-pub returns-in-Done : goal.returns-in-Done
-returns-in-Done c =
+pub returns-in-Ok : goal.returns-in-Ok
+returns-in-Ok c =
     let a = c.args in
-    let e = sym c.guard.ensures ∙ c.in-Done.is in
+    let e = sym c.guard.ensures ∙ c.in-Ok.is in
     record {
       says = λ room. c.opening_of.ensures.says (mask_of a.law) a.set room
           ∙ sym (read-allowed a.octets.now a.law a.set room e);

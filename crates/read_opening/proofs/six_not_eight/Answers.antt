@@ -1,41 +1,35 @@
 use native.Mathlib.Omega.{arith}
 use mathlib.Core.Path.{sym, ◌∙◌}
+use Rattle.read_bits.proofs.Told.{told, refused, stopped, handed_on}
 use Rattle.read_opening.proofs.Six.{six-at-once, second-missing, six-by-second, eight}
 use Rattle.read_opening.proofs.six_not_eight.Goals as goal
 
 pub returns-then-bit_at-eq1 : goal.returns-then-bit_at-eq1
 returns-then-bit_at-eq1 c = record {
-  says =
-      sym (six-at-once c.args.octets.now c.args.at (omega arith)
-      (sym c.bit_at.ensures.0 ∙ c.if-bit_at-eq1.true));
+  says = sym (six-at-once _ _ (omega arith) (sym c.bit_at.ensures.0 ∙ c.if-bit_at-eq1.true));
   value = omega arith;
   next = omega arith;
 }
 
-pub returns-then-octets-second : goal.returns-then-octets-second
-returns-then-octets-second c = record {
-  says = sym (second-missing c.args.octets.now c.args.at
-      (omega arith) (λ e. c.if-bit_at-eq1.false (c.bit_at.ensures.0 ∙ e)) (omega arith));
-  value = omega arith;
-  next = omega arith;
-}
+pub returns-in_err-second : goal.returns-in_err-second
+returns-in_err-second c =
+    rw (handed_on c.from_residual.result c.from_residual.ensures.1)
+    (stopped (second-missing _ _ (omega arith) (λ e. c.if-bit_at-eq1.false (c.bit_at.ensures.0 ∙ e)) (refused c.bit.ensures c.in_err-second.was)))
 
-pub returns-then-bit_at-eq1-2 : goal.returns-then-bit_at-eq1-2
-returns-then-bit_at-eq1-2 c = record {
-  says = sym (six-by-second c.args.octets.now
-      c.args.at (omega arith)
-      (λ e. c.if-bit_at-eq1.false (c.bit_at.ensures.0 ∙ e)) (omega arith)
-      (sym c.bit_at-2.ensures.0 ∙ c.if-bit_at-eq1-2.true));
-  value = omega arith;
-  next = omega arith;
-}
+pub returns-then-second-eq1 : goal.returns-then-second-eq1
+returns-then-second-eq1 c =
+    let t = told c.bit.ensures c.in_ok-second.was in
+    record {
+      says = sym (six-by-second _ _ (omega arith) (λ e. c.if-bit_at-eq1.false (c.bit_at.ensures.0 ∙ e)) t.says c.if-second-eq1.true);
+      value = omega arith;
+      next = omega (arith, t.next);
+    }
 
-pub returns : goal.returns
-returns c = record {
-  says = sym (eight c.args.octets.now
-      c.args.at (omega arith)
-      (λ e. c.if-bit_at-eq1.false (c.bit_at.ensures.0 ∙ e)) (omega arith)
-      (λ e. c.if-bit_at-eq1-2.false (c.bit_at-2.ensures.0 ∙ e)));
-  value = omega arith;
-  next = omega arith;
-}
+pub returns-else-second-eq1 : goal.returns-else-second-eq1
+returns-else-second-eq1 c =
+    let t = told c.bit.ensures c.in_ok-second.was in
+    record {
+      says = sym (eight _ _ (omega arith) (λ e. c.if-bit_at-eq1.false (c.bit_at.ensures.0 ∙ e)) t.says c.if-second-eq1.false);
+      value = omega arith;
+      next = omega (arith, t.next);
+    }

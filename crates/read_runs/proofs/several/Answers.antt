@@ -1,4 +1,5 @@
 -- The codes of one word (Word).
+use mathlib.Core.Path.{refl}
 use native.Mathlib.Omega.{arith}
 use Rattle.read_runs.proofs.Word.{in-word-none, in-word-turn, in-word-last, in-word-ends}
 use Rattle.read_runs.proofs.several.Goals as goal
@@ -12,11 +13,8 @@ overflow_add-p c =
 
 pub returns-then-d-p : goal.returns-then-d-p
 returns-then-d-p c =
-    let i = c.loop-zeros.invariant in
-    let z = c.zeros_in-zeros.ensures in
     let v = c.run_in.ensures in
-    let r = c.come_to.ensures in
-    in-word-last i z.0 (omega arith) (omega arith) (omega arith) v.0 _ r.0 r.1 r.2 r.3 r.4 (omega arith)
+    rw v.0 (in-word-last c.loop-zeros.invariant c.zeros_in-zeros.ensures.0 (omega arith) (omega arith) (omega arith) refl (omega arith))
 
 pub loop-zeros-preserved : goal.loop-zeros-preserved
 loop-zeros-preserved c =
@@ -26,7 +24,4 @@ loop-zeros-preserved c =
     in-word-turn i z.0 (omega arith) (omega arith) (omega arith) v.0 (omega arith)
 
 pub returns : goal.returns
-returns c =
-    let i = c.loop-zeros.invariant in
-    let r = c.come_to-2.ensures in
-    in-word-ends i _ r.0 r.1 r.2 r.4
+returns c = in-word-ends c.loop-zeros.invariant

@@ -41,7 +41,7 @@ returns-then-h-eq11 c =
 pub located-requires : goal.located-requires
 located-requires c = (omega (arith, c.requires.0.at), (ranged (goal.at.located-requires c).Start).1, c.requires.1, c.requires.2, c.requires.3)
 
-pub returns : goal.returns
-returns c =
-    fills-as c.located.ensures (ap (λ (b : Bool). either (goal.at.returns c).Start b (bits_of c.args.octets.now) c.args.h.at)
+pub returns-else-h-eq11 : goal.returns-else-h-eq11
+returns-else-h-eq11 c =
+    fills-as c.located.ensures (ap (λ (b : Bool). either (goal.at.returns-else-h-eq11 c).Start b (bits_of c.args.octets.now) c.args.h.at)
     (ne_eqb c.args.h.tool 11 c.if-h-eq11.false)) (omega (arith, c.requires.0.at))

@@ -6,8 +6,5 @@ use Rattle.reader.proofs.filling.Given as goal
 
 abbrev pub invariant-loop-at : goal.invariant-loop-at
 invariant-loop-at l =
-    (l.end ≤ l.at) × (l.at ≤ 8 * octets_for l.end)
+    (l.at ≤ 8 * octets_for l.end)
     × (filled {A = ℕ} 0 (fill_for l.end) (bits_of l.octets) l.end ≡ filled 0 (8 * octets_for l.end - l.at) (bits_of l.octets) l.at)
-
-abbrev pub decreases-loop-at : goal.decreases-loop-at
-decreases-loop-at l = 8 * octets_for l.end - l.at

@@ -1,12 +1,8 @@
 -- What was put out is the frame's samples (Lent).
-use mathlib.Core.Path.{refl}
 use native.Mathlib.Omega.{arith}
 use lib.ListN.{length}
 use Rattle.reader.proofs.Lent.{samples-fit, out-has, frame-of}
 use Rattle.reader.proofs.read_frame.Goals as goal
-
-pub slice_bounds-put_out-end : goal.slice_bounds-put_out-end
-slice_bounds-put_out-end c = refl
 
 pub put_out-requires : goal.put_out-requires
 put_out-requires c =

@@ -1,35 +1,23 @@
 -- TOOL, ROOM, the body, ALIGN (Decided), as the definition has them.
 use Prim.Native.Nat.{ℕ, ◌*◌, ◌^◌, ◌≤◌}
-use mathlib.Core.Path.{◌≡◌, refl, sym, ap, ◌∙◌}
+use mathlib.Core.Path.{◌≡◌, sym, ap, ◌∙◌}
 use mathlib.Core.List.{List}
-use mathlib.Core.Bool.{true}
 use native.Mathlib.Omega.{arith}
 use lib.ListN.{length}
-use Rattle.rules.specs.Tools.{holds}
+use Rattle.std.proofs.Common.{Ok}
 use Rattle.rules.specs.Bits.{bits_of}
 use Rattle.rules.specs.Reading.{Read}
 use Rattle.rules.specs.Samples.{mask_of}
 use Rattle.read_opening.specs.Opening.{body_of}
-use Rattle.read_bits.specs.declared.Outcome.TheVariants.{Got}
 use Rattle.read_bits.specs.Outcomes.{next_of}
+use Rattle.read_bits.proofs.Told.{handed_on}
 use Rattle.law.proofs.Mask.{mask-small, mask-odd}
 use Rattle.read_bodies.specs.Bodied.{FillsBody}
 use Rattle.read_bodies.proofs.Told.{body-whole, body-length, body_refused}
-use Rattle.reader.proofs.Told.{fills-none, fills-finish}
-use Rattle.reader.proofs.Decided.{no-tool, no_room, no_body, with-body, body-within, body-size}
-use Rattle.reader.proofs.with_tool.Goals.{Else-not-holds, After-body_of}
+use Rattle.reader.proofs.Told.{takes-whole, takes-stop, finish-stop, finish-done}
+use Rattle.reader.proofs.Decided.{no_body, with-body, body-within, body-size}
+use Rattle.reader.proofs.with_tool.Goals.{After-body_of}
 use Rattle.reader.proofs.with_tool.Goals as goal
-
-pub returns-then-not-holds : goal.returns-then-not-holds
-returns-then-not-holds c = fills-none (no-tool _ _ _ _ _ _ _ (sym c.holds.ensures ∙ c.if-not-holds.true))
-    refl c.requires.3 c.refused.ensures
-
-held : (c : Else-not-holds) → holds c.args.set c.args.h.tool ≡ true
-held c = sym c.holds.ensures ∙ c.if-not-holds.false
-
-pub returns-then-room-h : goal.returns-then-room-h
-returns-then-room-h c = fills-none (no_room _ _ _ _ _ _ _ (held (goal.at.returns-then-room-h c).Else-not-holds) c.if-room-h.true) refl
-    c.requires.3 c.refused-then-room-h.ensures
 
 pub body_of-requires : goal.body_of-requires
 body_of-requires c =
@@ -43,35 +31,53 @@ module _ (c : After-body_of) where
   fills : FillsBody found (2 ^ 41) c.args.samples.now c.body_of.new.samples c.body_of.result
   fills = rw c.mask_of.ensures at c.body_of.ensures
 
-  -- read whole, it ends within the octets
-  within : {len bits : ℕ} → c.body_of.result ≡ Got len bits → (bits ≤ 8 * length c.args.octets.now) × (bits ≤ 2 ^ 41)
-  within e = (
-    body-within c.args.law c.args.h.tool c.args.h.len c.args.h.mark c.requires.0.len c.args.octets.now
-        c.args.h.at
+  lent : length c.body_of.new.samples ≡ 320
+  lent = body-length fills c.requires.3
+
+  module _ {p : ℕ × ℕ} (e : c.body_of.result ≡ Ok p) where
+    -- read whole, it ends within the octets
+    within : (p.1 ≤ 8 * length c.args.octets.now) × (p.1 ≤ 2 ^ 41)
+    within = (
+      body-within c.args.law c.args.h.tool c.args.h.len c.args.h.mark c.requires.0.len c.args.octets.now
+          c.args.h.at
+          (omega (arith, c.requires.0.at, c.requires.2))
+          (body-whole fills e).says,
+      omega (arith, rw (ap next_of e) at fills.next),
+    )
+
+    -- and it has the frame's length
+    sized : c.args.h.len ≡ length (body-whole fills e).s
+    sized = body-size c.args.law c.args.h.tool c.args.h.len c.args.h.mark c.requires.0.len
+        c.args.octets.now c.args.h.at
         (omega (arith, c.requires.0.at, c.requires.2))
-        (body-whole fills e).says,
-    omega (arith, rw (ap next_of e) at fills.next),
-  )
+        (body-whole fills e).says
 
-  -- and it has the frame's length
-  sized : {len bits : ℕ} (e : c.body_of.result ≡ Got len bits) → c.args.h.len ≡ length (body-whole fills e).s
-  sized e = body-size c.args.law c.args.h.tool c.args.h.len c.args.h.mark c.requires.0.len
-      c.args.octets.now c.args.h.at
-      (omega (arith, c.requires.0.at, c.requires.2))
-      (body-whole fills e).says
+pub filling-requires : goal.filling-requires
+filling-requires c = within (goal.at.filling-requires c).After-body_of c.in_ok-bits.was
 
-pub finished-requires : goal.finished-requires
-finished-requires c = within (goal.at.finished-requires c).After-body_of c.in-Got.is
+pub returns-in_err-admitted : goal.returns-in_err-admitted
+returns-in_err-admitted c =
+    rw (handed_on c.from_residual.result c.from_residual.ensures.1) (takes-stop (c.in_err-admitted.ensures _ _ _) c.requires.3)
 
-pub returns-in-Refused : goal.returns-in-Refused
-returns-in-Refused c =
-    fills-none (no_body _ _ _ _ _ _ _ (held (goal.at.returns-in-Refused c).Else-not-holds) (omega arith)
-    (body_refused (fills (goal.at.returns-in-Refused c).After-body_of) c.in-Refused.is)) refl
-    (body-length (fills (goal.at.returns-in-Refused c).After-body_of) c.requires.3) c.refused-in-Refused.ensures
+pub returns-in_err-bits : goal.returns-in_err-bits
+returns-in_err-bits c =
+    let held = c.in_ok-admitted.ensures in
+    let b = (goal.at.returns-in_err-bits c).After-body_of in
+    rw (handed_on c.from_residual-in_err-bits.result c.from_residual-in_err-bits.ensures.1)
+    (takes-stop (sym (no_body _ _ _ _ _ _ _ held.0 held.1 (body_refused (fills b) c.in_err-bits.was))) (lent b))
 
-pub returns-in-Got : goal.returns-in-Got
-returns-in-Got c =
-    let w = body-whole (fills (goal.at.returns-in-Got c).After-body_of) c.in-Got.is in
-    fills-finish _ _ _ _ (with-body _ _ _ _ _ _ _ (held (goal.at.returns-in-Got c).Else-not-holds) (omega arith) w.says)
-    (c.finished.ensures w.s (sized (goal.at.returns-in-Got c).After-body_of c.in-Got.is))
-    w.samples (body-length (fills (goal.at.returns-in-Got c).After-body_of) c.requires.3)
+pub returns-in_err-filling : goal.returns-in_err-filling
+returns-in_err-filling c =
+    let held = c.in_ok-admitted.ensures in
+    let b = (goal.at.returns-in_err-filling c).After-body_of in
+    let w = body-whole (fills b) c.in_ok-bits.was in
+    rw (handed_on c.from_residual-in_err-filling.result c.from_residual-in_err-filling.ensures.1)
+    (takes-stop (sym (with-body _ _ _ _ _ _ _ held.0 held.1 w.says) ∙ finish-stop _ _ _ _ c.in_err-filling.ensures) (lent b))
+
+pub returns : goal.returns
+returns c =
+    let held = c.in_ok-admitted.ensures in
+    let b = (goal.at.returns c).After-body_of in
+    let w = body-whole (fills b) c.in_ok-bits.was in
+    takes-whole (sym (with-body _ _ _ _ _ _ _ held.0 held.1 w.says) ∙ finish-done _ _ _ _ c.in_ok-filling.ensures)
+    (sized b c.in_ok-bits.was) (within b c.in_ok-bits.was).1 w.samples (lent b)

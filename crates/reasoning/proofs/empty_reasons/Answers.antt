@@ -3,12 +3,12 @@ use Rattle.reasoning.proofs.empty_reasons.Goals as goal
 pub returns : goal.returns
 returns c =
     rw (
-      c.empty_state-uncompressed.ensures,
-      c.empty_state-plus.ensures,
-      c.empty_state-minus.ensures,
-      c.empty_state-constant.ensures,
-      c.empty_state-binary.ensures,
-      c.empty_state-rice.ensures,
-      c.empty_state-located.ensures,
-      c.empty_state-fractional.ensures,
+      c.empty_state.ensures,
+      c.empty_state-2.ensures,
+      c.empty_state-3.ensures,
+      c.empty_state-4.ensures,
+      c.empty_state-5.ensures,
+      c.empty_state-6.ensures,
+      c.empty_state-7.ensures,
+      c.empty_state-8.ensures,
     )

@@ -5,12 +5,12 @@ pub returns : goal.returns
 unfolding states_of
 returns c =
     rw (
-      c.state_of-uncompressed.ensures,
-      c.state_of-plus.ensures,
-      c.state_of-minus.ensures,
-      c.state_of-constant.ensures,
-      c.state_of-binary.ensures,
-      c.state_of-rice.ensures,
-      c.state_of-located.ensures,
-      c.state_of-fractional.ensures,
+      c.state_of.ensures,
+      c.state_of-2.ensures,
+      c.state_of-3.ensures,
+      c.state_of-4.ensures,
+      c.state_of-5.ensures,
+      c.state_of-6.ensures,
+      c.state_of-7.ensures,
+      c.state_of-8.ensures,
     )

@@ -1,4 +1,5 @@
 use Rattle.reasoning.proofs.Refusing.{why-refused, why-told}
+use Rattle.write_offers.proofs.Offering.{handed_on}
 use Rattle.write_scan.proofs.Tests.{is-mask}
 use mathlib.Core.Path.{sym, ◌∙◌}
 use Rattle.reasoning.proofs.why_some.Goals as goal
@@ -10,11 +11,14 @@ why_allowed-requires c = (
       (is-mask c.args.law),
 )
 
-pub returns-in-Refused : goal.returns-in-Refused
-returns-in-Refused c = why-refused _ _ _ _ (sym c.guard_writer-guarded.ensures ∙ c.in-Refused.is)
+pub returns-in_err-guard_writer : goal.returns-in_err-guard_writer
+returns-in_err-guard_writer c =
+    let a = c.args in
+    handed_on c.from_residual.result c.from_residual.ensures.1
+    ∙ why-refused a.n a.samples.now a.law a.set (sym c.guard_writer.ensures ∙ c.in_err-guard_writer.was)
 
-pub returns-in-Done : goal.returns-in-Done
-returns-in-Done c =
+pub returns : goal.returns
+returns c =
     let a = c.args in
     why-told a.n a.samples.now a.law a.set c.mask_of.ensures
-    (sym c.guard_writer-guarded.ensures ∙ c.in-Done.is) c.why_allowed.ensures
+    (sym c.guard_writer.ensures ∙ c.in_ok-guard_writer.was) c.why_allowed.ensures

@@ -8,9 +8,8 @@ returns-then-tie c = record {
       (arith, c.put_word.ensures.place);
 }
 
-pub returns : goal.returns
-returns c = record {
-  puts = rw c.if-tie.false c.put_word-2.ensures;
-  most = omega
-      (arith, c.put_word-2.ensures.place);
+pub returns-else-tie : goal.returns-else-tie
+returns-else-tie c = record {
+  puts = rw c.if-tie.false c.put_word-else-tie.ensures;
+  most = omega (arith, c.put_word-else-tie.ensures.place);
 }

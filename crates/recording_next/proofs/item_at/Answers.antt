@@ -4,7 +4,7 @@ use native.Mathlib.Omega.{arith}
 use native.Mathlib.Nat.{le_of_lt}
 use lib.ListN.{length, drop}
 use Rattle.read_head.specs.Heads.{head_of, head_tool}
-use Rattle.recording.specs.declared.Ending.TheVariants.{Done}
+use Rattle.std.proofs.Common.{Ok}
 use Rattle.recording.specs.Items.{items_from}
 use Rattle.recording_next.specs.Next.{Piece, item_here, piece_end, piece_tool}
 use Rattle.recording_next.proofs.Pieces.{recorded_of, one-item, ended-as, place-behind, piece-refused, Few, few-here, piece-found}
@@ -24,7 +24,7 @@ module _ (c : After-play_on-r) where
   few : Few here
   few = few-here c.args.octets.now c.args.law c.args.set c.args.at (length c.args.out.now)
 
-  tool : piece_end here ≡ Done → head_tool (head_of (drop c.args.at c.args.octets.now) c.args.set) ≡ piece_tool here
+  tool : piece_end here ≡ Ok tt → head_tool (head_of (drop c.args.at c.args.octets.now) c.args.set) ≡ piece_tool here
   tool = tool-here c.args.octets.now c.args.law c.args.set c.args.at (length c.args.out.now) c.requires.0 c.requires.1
 
 pub overflow_sub-result : goal.overflow_sub-result
@@ -38,16 +38,16 @@ overflow_sub-result c =
 pub tool_at-requires : goal.tool_at-requires
 tool_at-requires c = le_of_lt c.requires.1
 
-pub returns-in-Refused : goal.returns-in-Refused
-returns-in-Refused c =
+pub returns-in-Err : goal.returns-in-Err
+returns-in-Err c =
     piece-refused (item_here c.args.octets.now c.args.law c.args.set c.args.at (length c.args.out.now))
-    (rw (one (goal.at.returns-in-Refused c).After-play_on-r) at c.play_on-r.ensures) c.in-Refused.is (c.unread.ensures _)
+    (rw (one (goal.at.returns-in-Err c).After-play_on-r) at c.play_on-r.ensures) c.in-Err.is (c.unread.ensures _)
 
-pub returns-in-Done : goal.returns-in-Done
-returns-in-Done c =
-    let read = rw (one (goal.at.returns-in-Done c).After-play_on-r) at c.play_on-r.ensures in
-    let e = c.in-Done.is in
+pub returns-in-Ok : goal.returns-in-Ok
+returns-in-Ok c =
+    let read = rw (one (goal.at.returns-in-Ok c).After-play_on-r) at c.play_on-r.ensures in
+    let e = c.in-Ok.is in
     piece-found (item_here c.args.octets.now c.args.law c.args.set c.args.at (length c.args.out.now))
-    (few (goal.at.returns-in-Done c).After-play_on-r) read e c.kind_of.ensures c.samples_of.ensures
-    (c.tool_at.ensures ∙ tool (goal.at.returns-in-Done c).After-play_on-r
+    (few (goal.at.returns-in-Ok c).After-play_on-r) read e c.kind_of.ensures c.samples_of.ensures
+    (c.tool_at.ensures ∙ tool (goal.at.returns-in-Ok c).After-play_on-r
     (ended-as c.args.at (item_here c.args.octets.now c.args.law c.args.set c.args.at (length c.args.out.now)) read e))

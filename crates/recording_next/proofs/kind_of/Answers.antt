@@ -4,5 +4,5 @@ use Rattle.recording_next.proofs.kind_of.Goals as goal
 pub returns-then-cell-ge-LOSS_FROM : goal.returns-then-cell-ge-LOSS_FROM
 returns-then-cell-ge-LOSS_FROM c = rw (le-leb _ _ c.if-cell-ge-LOSS_FROM.true)
 
-pub returns : goal.returns
-returns c = rw (lt-leb _ _ c.if-cell-ge-LOSS_FROM.false)
+pub returns-else-cell-ge-LOSS_FROM : goal.returns-else-cell-ge-LOSS_FROM
+returns-else-cell-ge-LOSS_FROM c = rw (lt-leb _ _ c.if-cell-ge-LOSS_FROM.false)

@@ -12,14 +12,14 @@ compared : {word : List ℕ} {r b : Bool} (head text : List ℕ) → word ≡ he
 compared head text w e f = ap (λ (h : List ℕ). begins h text) (sym w) ∙ sym e ∙ f
 
 pub returns-then-has_word : goal.returns-then-has_word
-returns-then-has_word c = headed-a _ (compared _ _ c.heading_of-of_a.ensures c.has_word.ensures c.if-has_word.true)
+returns-then-has_word c = headed-a _ (compared _ _ c.heading_of.ensures c.has_word.ensures c.if-has_word.true)
 
 pub returns-then-has_word-2 : goal.returns-then-has_word-2
 returns-then-has_word-2 c =
-    headed-mu _ (compared _ _ c.heading_of-of_a.ensures c.has_word.ensures c.if-has_word.false)
-    (compared _ _ c.heading_of-of_mu.ensures c.has_word-2.ensures c.if-has_word-2.true)
+    headed-mu _ (compared _ _ c.heading_of.ensures c.has_word.ensures c.if-has_word.false)
+    (compared _ _ c.heading_of-else-has_word.ensures c.has_word-else-has_word.ensures c.if-has_word-2.true)
 
-pub returns : goal.returns
-returns c =
-    headed-none _ (compared _ _ c.heading_of-of_a.ensures c.has_word.ensures c.if-has_word.false)
-    (compared _ _ c.heading_of-of_mu.ensures c.has_word-2.ensures c.if-has_word-2.false)
+pub returns-else-has_word-2 : goal.returns-else-has_word-2
+returns-else-has_word-2 c =
+    headed-none _ (compared _ _ c.heading_of.ensures c.has_word.ensures c.if-has_word.false)
+    (compared _ _ c.heading_of-else-has_word.ensures c.has_word-else-has_word.ensures c.if-has_word-2.false)

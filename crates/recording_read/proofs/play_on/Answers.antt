@@ -1,12 +1,12 @@
 -- Each turn takes one item (Playing); the measure is how many items more are allowed.
 use Prim.Native.Nat.{◌+◌, ◌≤◌, ◌<◌}
-use mathlib.Core.Path.{◌≡◌, refl, sym}
+use mathlib.Core.Path.{refl}
 use native.Mathlib.Omega.{arith}
-use lib.ListN.{length}
-use Rattle.rules.specs.declared.Ending.TheVariants.{Done}
+use lib.ListN.{length, length-take, length-drop}
 use Rattle.rules.proofs.Lent.{lent_length}
+use Rattle.recording_read.proofs.Turning.{sound-put}
 use Rattle.recording_read.proofs.Playing.{play-start, play-last, play-ended, play-full, play-refused, play-fits, play-turn}
-use Rattle.recording_read.proofs.play_on.Goals.{then-loop-count-test+else-place-octets, else-loop-count-test, Then-place-octets, After-item_at-r, After-struct_known-1}
+use Rattle.recording_read.proofs.play_on.Goals.{then-loop-count-test+else-place-octets, else-loop-count-test, Then-place-octets, In-Ok}
 use Rattle.recording_read.proofs.play_on.Goals as goal
 
 -- there is an item to look at
@@ -31,54 +31,48 @@ returns-then-cells-count c =
 pub overflow_sub-out : goal.overflow_sub-out
 overflow_sub-out c = let w = c.loop-count.invariant in omega (arith, w.kept.room, lent_length w.kept)
 
-pub item_at-r-requires : goal.item_at-r-requires
-item_at-r-requires c = (here (goal.at.item_at-r-requires c).Then-place-octets, c.loop-count.invariant.size)
+pub item_at-requires : goal.item_at-requires
+item_at-requires c = (here (goal.at.item_at-requires c).Then-place-octets, c.loop-count.invariant.size)
 
 -- an item that was looked at
-module _ (c : After-item_at-r) where
-  module _ (e : c.item_at-r.result.end ≡ Done) where
-    fits : (c.loop-count.place + c.item_at-r.result.octets ≤ length c.args.octets.now)
-        × (c.item_at-r.result.len ≤ length c.item_at-r.new.samples)
-        × (c.loop-count.to + c.item_at-r.result.len ≤ length c.loop-count.out)
-    fits = play-fits _ _ _ _ _ _ _ c.loop-count.invariant (omega arith) c.if-place-octets.true c.if-cells-count.false
-        c.item_at-r.ensures e
+module _ (c : In-Ok) where
+  fits : (c.loop-count.place + c.in-Ok.turn.octets ≤ length c.args.octets.now)
+      × (c.in-Ok.turn.len ≤ length c.item_at.new.samples) × (c.loop-count.to + c.in-Ok.turn.len ≤ length c.loop-count.out)
+  fits = play-fits _ _ _ _ _ _ _ c.loop-count.invariant (omega arith) c.if-place-octets.true c.if-cells-count.false c.in-Ok.ensures
 
-pub shape_of-out-in-Refused : goal.shape_of-out-in-Refused
-shape_of-out-in-Refused c = lent_length c.loop-count.invariant.kept
+pub shape_of-out-in-Err : goal.shape_of-out-in-Err
+shape_of-out-in-Err c = lent_length c.loop-count.invariant.kept
 
-pub shape_of-cells-in-Refused : goal.shape_of-cells-in-Refused
-shape_of-cells-in-Refused c = lent_length c.loop-count.invariant.told
+pub shape_of-cells-in-Err : goal.shape_of-cells-in-Err
+shape_of-cells-in-Err c = lent_length c.loop-count.invariant.told
 
-pub returns-in-Refused : goal.returns-in-Refused
-returns-in-Refused c =
-    rw c.so_far-in-Refused.ensures
-    (play-refused _ _ _ _ _ _ _ c.loop-count.invariant (omega arith) (here (goal.at.returns-in-Refused c).Then-place-octets)
-    c.if-cells-count.false c.item_at-r.ensures
-    c.in-Refused.why c.in-Refused.is)
-
-pub slice_bounds-put_item-end : goal.slice_bounds-put_item-end
-slice_bounds-put_item-end c = sym c.item_at-r.ensures.size
-
-pub put_item-requires : goal.put_item-requires
-put_item-requires c =
-    let f = fits (goal.at.put_item-requires c).After-item_at-r c.in-Done.is in
-    (f.1, f.2, c.if-cells-count.false)
-
--- an item that was put
-module _ (c : After-struct_known-1) where
-  done : c.item_at-r.result.end ≡ Done
-  done = c.in-Done.is
-
-pub overflow_add-place : goal.overflow_add-place
-overflow_add-place c = omega (arith, (fits (goal.at.overflow_add-place c).After-item_at-r (done c)).0)
+pub returns-in-Err : goal.returns-in-Err
+returns-in-Err c =
+    rw c.so_far-in-Err.ensures
+    (play-refused _ _ _ _ _ _ _ c.loop-count.invariant (omega arith) (here (goal.at.returns-in-Err c).Then-place-octets)
+    c.if-cells-count.false c.in-Err.ensures)
 
 pub overflow_add-to : goal.overflow_add-to
-overflow_add-to c =
-    omega (
-      arith,
-      (fits (goal.at.overflow_add-to c).After-item_at-r (done (goal.at.overflow_add-to c).After-struct_known-1)).2,
-      lent_length c.loop-count.invariant.kept,
-    )
+overflow_add-to c = omega (arith, (fits (goal.at.overflow_add-to c).In-Ok).2, lent_length c.loop-count.invariant.kept)
+
+pub slice_bounds-copy_from_slice-end : goal.slice_bounds-copy_from_slice-end
+slice_bounds-copy_from_slice-end c = (fits (goal.at.slice_bounds-copy_from_slice-end c).In-Ok).2
+
+pub slice_bounds-copy_from_slice-end-in-Ok : goal.slice_bounds-copy_from_slice-end-in-Ok
+slice_bounds-copy_from_slice-end-in-Ok c =
+    let f = fits (goal.at.slice_bounds-copy_from_slice-end-in-Ok c).In-Ok in
+    omega (arith, length-take c.in-Ok.turn.len c.item_at.new.samples, f.1)
+
+pub slice_bounds-samples-end : goal.slice_bounds-samples-end
+slice_bounds-samples-end c = (fits (goal.at.slice_bounds-samples-end c).In-Ok).1
+
+pub copy_from_slice-requires : goal.copy_from_slice-requires
+copy_from_slice-requires c =
+    let f = fits (goal.at.copy_from_slice-requires c).In-Ok in
+    simp (length-take, length-drop) (omega (arith, f.1, f.2))
+
+pub overflow_add-place : goal.overflow_add-place
+overflow_add-place c = omega (arith, (fits (goal.at.overflow_add-place c).In-Ok).0)
 
 pub overflow_add-count : goal.overflow_add-count
 overflow_add-count c = omega (arith)
@@ -88,11 +82,8 @@ loop-count-smaller c = omega arith
 
 pub loop-count-preserved : goal.loop-count-preserved
 loop-count-preserved c =
-    let p = c.put_item.ensures in
-    rw p.1
-    (play-turn _ _ _ _ _ _ _ c.loop-count.invariant (omega arith) (here (goal.at.loop-count-preserved c).Then-place-octets)
-    c.if-cells-count.false c.item_at-r.ensures (done (goal.at.loop-count-preserved c).After-struct_known-1)
-    p.0)
+    play-turn _ _ _ _ _ _ _ c.loop-count.invariant (omega arith) (here (goal.at.loop-count-preserved c).Then-place-octets)
+    c.if-cells-count.false c.in-Ok.ensures (sound-put _ _ _ _ _ c.copy_from_slice.ensures.after)
 
 pub shape_of-out : goal.shape_of-out
 shape_of-out c = lent_length c.loop-count.invariant.kept

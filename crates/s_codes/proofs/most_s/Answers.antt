@@ -3,14 +3,14 @@ use borrow.Author.Tests.{ne_eqb}
 use Rattle.rules.specs.Zeros.{codes_of}
 use Rattle.s_codes.proofs.most_s.Goals as goal
 
-pub returns-then-n-eq40 : goal.returns-then-n-eq40
+pub returns-in-40 : goal.returns-in-40
 unfolding codes_of
-returns-then-n-eq40 c = (rw c.if-n-eq40.true, omega arith)
+returns-in-40 c = (rw c.in-40.is, omega arith)
 
-pub returns-then-n-eq80 : goal.returns-then-n-eq80
+pub returns-in-80 : goal.returns-in-80
 unfolding codes_of
-returns-then-n-eq80 c = (rw c.if-n-eq80.true, omega arith)
+returns-in-80 c = (rw c.in-80.is, omega arith)
 
-pub returns : goal.returns
+pub returns-in_default : goal.returns-in_default
 unfolding codes_of
-returns c = (rw (ne_eqb _ 40 c.if-n-eq40.false, ne_eqb _ 80 c.if-n-eq80.false), omega arith)
+returns-in_default c = let n = c.args.n in (rw (ne_eqb n 40 (omega arith), ne_eqb n 80 (omega arith)), omega arith)

@@ -1,3 +1,4 @@
+use native.Mathlib.Omega.{arith}
 use mathlib.Core.Path.{refl, ap}
 use Rattle.rules.specs.Bits.{low_bits}
 use Rattle.rules.specs.Zeros.{codes_of}
@@ -5,14 +6,14 @@ use Rattle.s_codes.specs.Codes.{s_in}
 use Rattle.s_codes.proofs.Coded.{codes-more, table-told}
 use Rattle.s_codes.proofs.table_of.Goals as goal
 
-pub returns-then-n-eq40 : goal.returns-then-n-eq40
+pub returns-in-40 : goal.returns-in-40
 unfolding low_bits codes_of s_in
-returns-then-n-eq40 c = table-told 40 4 _ _ _ (ap codes_of c.if-n-eq40.true) refl refl refl refl refl refl refl
+returns-in-40 c = table-told 40 4 _ _ _ (ap codes_of c.in-40.is) refl refl refl refl refl refl refl
 
-pub returns-then-n-eq80 : goal.returns-then-n-eq80
+pub returns-in-80 : goal.returns-in-80
 unfolding low_bits codes_of s_in
-returns-then-n-eq80 c = table-told 80 3 _ _ _ (ap codes_of c.if-n-eq80.true) refl refl refl refl refl refl refl
+returns-in-80 c = table-told 80 3 _ _ _ (ap codes_of c.in-80.is) refl refl refl refl refl refl refl
 
-pub returns : goal.returns
+pub returns-in_default : goal.returns-in_default
 unfolding low_bits codes_of s_in
-returns c = table-told 160 0 _ _ _ (codes-more _ c.if-n-eq40.false c.if-n-eq80.false) refl refl refl refl refl refl refl
+returns-in_default c = table-told 160 0 _ _ _ (codes-more c.args.n (omega arith) (omega arith)) refl refl refl refl refl refl refl

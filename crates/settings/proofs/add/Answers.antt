@@ -9,4 +9,4 @@ returns-then-last c = is-spent _ _ _ (sym c.last_of-last.ensures ∙ c.if-last.t
 pub returns : goal.returns
 returns c =
     let l = c.last_of-last.ensures in
-    rw l (is-added _ _ _ (omega (arith, l)) c.with_added-next.ensures)
+    rw l (is-added _ _ _ (omega (arith, l)) c.with_added.ensures)

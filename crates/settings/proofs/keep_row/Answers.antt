@@ -4,5 +4,5 @@ use Rattle.settings.proofs.keep_row.Goals as goal
 pub returns-then-r-eq0 : goal.returns-then-r-eq0
 returns-then-r-eq0 c = not-kept _ _ _ c.if-r-eq0.true
 
-pub returns : goal.returns
-returns c = is-kept _ _ _ c.if-r-eq0.false c.put_row.ensures
+pub returns-else-r-eq0 : goal.returns-else-r-eq0
+returns-else-r-eq0 c = is-kept _ _ _ c.if-r-eq0.false c.put_row.ensures

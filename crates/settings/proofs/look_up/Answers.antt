@@ -1,8 +1,8 @@
+use Rattle.std.specs.Prelude.{Some}
 use mathlib.Core.Path.{refl, sym, ap, ◌∙◌}
 use native.Mathlib.Omega.{arith}
 use Prim.Native.Nat.{ℕ}
 use Rattle.settings.specs.declared.Revision.{Revision}
-use Rattle.settings.specs.declared.Kept.TheVariants.{Under}
 use Rattle.settings.proofs.Revisions.{zero-gone, kept-looked, looked-here, looked-on, looked-through}
 use Rattle.settings.proofs.look_up.Goals as goal
 
@@ -18,7 +18,7 @@ loop-k-init c = (omega arith, refl)
 pub returns-then-r-n : goal.returns-then-r-n
 returns-then-r-n c = sym (kept-looked _ c.if-n-eq0.false _ ∙ c.loop-k.invariant.1
     ∙ looked-here _ _ _ (omega arith) (ap number (sym c.row_at-r.ensures) ∙ c.if-r-n.true)
-    ∙ ap (λ (r : Revision). Under r.values) (sym c.row_at-r.ensures))
+    ∙ ap (λ (r : Revision). Some r.values) (sym c.row_at-r.ensures))
 
 pub loop-k-preserved : goal.loop-k-preserved
 loop-k-preserved c =

@@ -6,6 +6,3 @@ use Rattle.settings.proofs.look_up.Given as goal
 
 abbrev pub invariant-loop-k : goal.invariant-loop-k
 invariant-loop-k l = (l.k ≤ 8) × (look_up l.n (rows_at l.state 8 0) ≡ look_up l.n (rows_at l.state (8 - l.k) l.k))
-
-abbrev pub decreases-loop-k : goal.decreases-loop-k
-decreases-loop-k l = 8 - l.k

@@ -4,13 +4,14 @@ use mathlib.Core.Path.{◌≡◌, sym, ◌∙◌}
 use mathlib.Core.Bool.{true}
 use native.Mathlib.Omega.{arith}
 use Rattle.store_rows.specs.Limits.{largest_block}
+use Rattle.std.proofs.lemmas.Result.{err_from_is_err_and}
 use Rattle.store_notes.proofs.Matched.{sane-noted, room_for}
 use Rattle.store_notes.proofs.Stored.{heads-kept, count_kept}
 use Rattle.store.specs.Looking.{Looked}
 use Rattle.store.proofs.Looks.{look-told}
 use Rattle.store.proofs.Fitted.{rows-less}
 use Rattle.store.proofs.Called.{delete-table, delete-stop, delete-absent, delete-found}
-use Rattle.store.proofs.delete.Goals.{Else-not-sane, In-Found}
+use Rattle.store.proofs.delete.Goals.{Else-not-sane, In_ok-n}
 use Rattle.store.proofs.delete.Goals as goal
 
 pub returns-then-not-sane : goal.returns-then-not-sane
@@ -27,27 +28,27 @@ pub judge-requires : goal.judge-requires
 judge-requires c = sane-noted _ _ (sym c.sane.ensures ∙ passed (goal.at.judge-requires c).Else-not-sane)
 
 -- the number was looked for
-module _ (c : In-Found) where
-  looked : Looked c.size_of-size.result c.args.table.now c.args.number c.in-Found.n c.in-Found.i
+module _ (c : In_ok-n) where
+  looked : Looked c.size_of-size.result c.args.table.now c.args.number c.in_ok-n.n c.in_ok-n.i
   looked = look-told _ _ _ (sym c.sane.ensures ∙ (c.if-not-sane.false))
-      (rw c.wide.ensures at (sym c.in-Found.is ∙ c.judge.ensures))
+      (sym c.in_ok-n.was ∙ c.judge.ensures)
 
 pub returns-then-n-i : goal.returns-then-n-i
 returns-then-n-i c =
     let a = c.args in
     delete-absent a.block.now a.table.now c.size_of-size.ensures c.sane.ensures
     (passed (goal.at.returns-then-n-i c).Else-not-sane) a.number
-    (looked (goal.at.returns-then-n-i c).In-Found) (omega arith)
+    (looked (goal.at.returns-then-n-i c).In_ok-n) (omega arith)
 
 pub remove-requires : goal.remove-requires
 remove-requires c =
-    let k = looked (goal.at.remove-requires c).In-Found in
+    let k = looked (goal.at.remove-requires c).In_ok-n in
     (k.count, omega (arith, k.count, k.noted.order.few), omega arith, k.noted.order.cells)
 
 pub drop_note-requires : goal.drop_note-requires
 drop_note-requires c =
-    let k = looked (goal.at.drop_note-requires c).In-Found in
-    let few = rows-less c.args.table.now c.in-Found.i k.noted.order.few in
+    let k = looked (goal.at.drop_note-requires c).In_ok-n in
+    let few = rows-less c.args.table.now c.in_ok-n.i k.noted.order.few in
     let gone = c.remove.ensures in
     let small : c.size_of-size.result ≤ largest_block = omega (arith, c.size_of-size.ensures) in
     record {
@@ -55,14 +56,16 @@ drop_note-requires c =
       table_in_bounds = rw (heads-kept _ _ few gone) (omega (arith, room_for k.noted small, c.remove.auto.table));
     }
 
-pub returns-in-Stop : goal.returns-in-Stop
-returns-in-Stop c =
+pub returns-in_err-n : goal.returns-in_err-n
+returns-in_err-n c =
     let a = c.args in
-    delete-stop a.block.now a.table.now c.size_of-size.ensures c.sane.ensures (passed (goal.at.returns-in-Stop c).Else-not-sane) a.number
-    (rw c.wide.ensures at (sym c.in-Stop.is ∙ c.judge.ensures))
+    let p = err_from_is_err_and c.from_residual.result c.from_residual.ensures.1 in
+    rw (p.1, p.2)
+    (delete-stop a.block.now a.table.now c.size_of-size.ensures c.sane.ensures (passed (goal.at.returns-in_err-n c).Else-not-sane) a.number
+    (sym c.in_err-n.was ∙ c.judge.ensures))
 
-pub returns-else-n-i : goal.returns-else-n-i
-returns-else-n-i c =
+pub returns : goal.returns
+returns c =
     let a = c.args in
-    delete-found a.block.now a.table.now c.size_of-size.ensures c.sane.ensures (passed (goal.at.returns-else-n-i c).Else-not-sane) a.number
-    (looked (goal.at.returns-else-n-i c).In-Found) (omega arith) c.remove.ensures c.drop_note.ensures
+    delete-found a.block.now a.table.now c.size_of-size.ensures c.sane.ensures (passed (goal.at.returns c).Else-not-sane) a.number
+    (looked (goal.at.returns c).In_ok-n) (omega arith) c.remove.ensures c.drop_note.ensures

@@ -2,6 +2,7 @@
 use mathlib.Core.Path.{◌≡◌, sym, ◌∙◌}
 use mathlib.Core.Bool.{true}
 use native.Mathlib.Omega.{arith}
+use Rattle.std.proofs.lemmas.Result.{err_from_is_err_and}
 use Rattle.store_notes.proofs.Matched.{sane-noted}
 use Rattle.store.proofs.Looks.{look-told, at_most}
 use Rattle.store.proofs.Called.{put-table, put-law, put-stop, put-goes-on}
@@ -33,17 +34,19 @@ pub put_among-requires : goal.put_among-requires
 put_among-requires c =
     let size = c.size_of-size.ensures in
     let k = look-told _ _ _ (sym c.sane.ensures ∙ passed (goal.at.put_among-requires c).Else-not-sane)
-    (sym c.in-Found.is ∙ c.judge.ensures) in
+    (sym c.in_ok-n.was ∙ c.judge.ensures) in
     record { looked = k; size_in_bounds = (omega (arith, size), omega (arith, size), omega arith, at_most _ _ _ k) }
 
-pub returns-in-Stop : goal.returns-in-Stop
-returns-in-Stop c =
+pub returns-in_err-n : goal.returns-in_err-n
+returns-in_err-n c =
     let a = c.args in
-    put-stop a.block.now a.table.now c.size_of-size.ensures c.sane.ensures (passed (goal.at.returns-in-Stop c).Else-not-sane) a.law a.number
-    a.octets.now (omega arith) (rw c.wide-x.ensures at (sym c.in-Stop.is ∙ c.judge.ensures))
+    let p = err_from_is_err_and c.from_residual.result c.from_residual.ensures.1 in
+    rw (p.1, p.2)
+    (put-stop a.block.now a.table.now c.size_of-size.ensures c.sane.ensures (passed (goal.at.returns-in_err-n c).Else-not-sane) a.law a.number
+    a.octets.now (omega arith) (sym c.in_err-n.was ∙ c.judge.ensures))
 
-pub returns-in-Found : goal.returns-in-Found
-returns-in-Found c =
+pub returns : goal.returns
+returns c =
     let a = c.args in
-    put-goes-on a.block.now a.table.now c.size_of-size.ensures c.sane.ensures (passed (goal.at.returns-in-Found c).Else-not-sane) a.law a.number
-    a.octets.now (rw c.wide-x.ensures at c.put_among.ensures)
+    put-goes-on a.block.now a.table.now c.size_of-size.ensures c.sane.ensures (passed (goal.at.returns c).Else-not-sane) a.law a.number
+    a.octets.now c.put_among.ensures

@@ -21,19 +21,19 @@ returns-then-sought-octets c =
 pub put_sound-requires : goal.put_sound-requires
 put_sound-requires c =
     let p = c.requires in
-    let k = taken c.take.ensures c.in-Counted.is (omega arith) (omega arith) c.take.auto.marks in
+    let k = taken c.take.ensures c.in-Some.is (omega arith) (omega arith) c.take.auto.marks in
     record {
       looked = (p.looked, omega arith);
       size_in_bounds = (p.size_in_bounds.0, p.size_in_bounds.1, p.size_in_bounds.3, omega arith);
       taken = k;
     }
 
-pub returns-in-Wrong : goal.returns-in-Wrong
-returns-in-Wrong c =
+pub returns-in-None : goal.returns-in-None
+returns-in-None c =
     let a = c.args in
     let p = c.requires in
     put-bad a.block.now a.table.now a.sought.size a.law a.sought.number a.octets.now p.looked p.size_in_bounds.2 (omega arith)
-    (taken-bad _ _ (rw c.in-Wrong.is at c.take.ensures))
+    (taken-bad _ _ (rw c.in-None.is at c.take.ensures))
 
-pub returns-in-Counted : goal.returns-in-Counted
-returns-in-Counted c = c.put_sound.ensures
+pub returns-in-Some : goal.returns-in-Some
+returns-in-Some c = c.put_sound.ensures

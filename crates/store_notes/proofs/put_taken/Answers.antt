@@ -24,14 +24,14 @@ insert-requires c =
     let h = c.requires.1.heard in
     record {
       n_value = (omega (arith, first), omega arith, omega arith, rw e (omega (arith, length-drop 97 t)));
-      number_bound = (omega (arith, c.wide.ensures), omega (arith, heard-small h), omega (arith, heard-few h, h.short));
+      number_bound = (omega arith, omega (arith, heard-small h), omega (arith, heard-few h, h.short));
     }
 
 pub open_taken-requires : goal.open_taken-requires
 open_taken-requires c =
     let s = c.args in
     let t = s.table.now in
-    let r = row_of c.wide.result s.head.samples s.head.marks in
+    let r = row_of s.head.law s.head.samples s.head.marks in
     let made = part-made 97 (λ (u : List ℕ). laid (insert_at s.i r (rows_of u)) u) t c.insert.ensures refl in
     let size = part_length t s.n s.i (omega arith) (omega arith) (omega arith) (insert_at s.i r (heads_of t))
     (heads-more t s.n s.i (omega arith) (omega arith) (omega arith) r (omega arith)) made in
@@ -46,7 +46,7 @@ pub returns : goal.returns
 returns c =
     let s = c.args in
     let t = s.table.now in
-    let r = row_of c.wide.result s.head.samples s.head.marks in
+    let r = row_of s.head.law s.head.samples s.head.marks in
     let note = note_of s.head.law s.octets.now in
     let new = mark_cells note.marks in
     let front = 2 * c.marks_before-at.result in
@@ -54,6 +54,6 @@ returns c =
     let once = take 97 t ++ (c.insert.new.table ++ drop (length t - 97) (drop 97 t)) in
     let made = part-made 97 (λ (u : List ℕ). laid (insert_at s.i r (rows_of u)) u) t c.insert.ensures refl in
     note-put t s.n s.i (omega arith) (omega arith) (omega arith) note r new (omega arith)
-    (heard-row c.requires.1.heard c.wide.ensures) refl
+    (heard-row c.requires.1.heard refl) refl
     (ap (λ (x : ℕ). 2 * x) c.marks_before-at.ensures.0) (ap (λ (x : ℕ). 2 * x) c.marks_before-used.ensures.0) made
     (part-made 194 (λ (u : List ℕ). opened u front all new) once c.open_taken.ensures refl)

@@ -11,7 +11,7 @@ use Rattle.store_save.proofs.any_bad.Goals as goal
 pub loop-i-init : goal.loop-i-init
 loop-i-init c =
     let a = c.args in
-    (omega arith, ap (λ (l : List Row). bad_by a.block.now l a.laws.now) (sym (left-all a.cells.now a.n)))
+    ap (λ (l : List Row). bad_by a.block.now l a.laws.now) (sym (left-all a.cells.now a.n))
 
 pub slice_bounds-is_bad-start : goal.slice_bounds-is_bad-start
 slice_bounds-is_bad-start c =
@@ -28,7 +28,7 @@ returns-then-is_bad c =
     let a = c.args in
     let r = c.row_at-r.ensures.0 in
     bad-here a.block.now a.cells.now a.laws.now a.n c.loop-i.i r (omega arith) c.is_bad.ensures c.if-is_bad.true
-    ∙ c.loop-i.invariant.1
+    ∙ c.loop-i.invariant
 
 pub loop-i-preserved : goal.loop-i-preserved
 loop-i-preserved c =
@@ -36,9 +36,9 @@ loop-i-preserved c =
     let r = c.row_at-r.ensures.0 in
     let o = bad-on a.block.now a.cells.now a.laws.now a.n c.loop-i.i r (omega arith) c.is_bad.ensures
     c.if-is_bad.false in
-    (omega arith, sym o ∙ c.loop-i.invariant.1)
+    sym o ∙ c.loop-i.invariant
 
 pub returns : goal.returns
 returns c =
     let a = c.args in
-    bad-none a.block.now a.cells.now a.laws.now a.n c.loop-i.i (omega arith) ∙ c.loop-i.invariant.1
+    bad-none a.block.now a.cells.now a.laws.now a.n c.loop-i.i (omega arith) ∙ c.loop-i.invariant

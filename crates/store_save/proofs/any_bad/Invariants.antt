@@ -1,4 +1,3 @@
-use Prim.Native.Nat.{◌-◌, ◌≤◌}
 use mathlib.Core.Path.{◌≡◌}
 use lib.ListN.{drop}
 use Rattle.store_rows.specs.Cells.{rows_at}
@@ -8,7 +7,4 @@ use Rattle.store_save.proofs.any_bad.Given as goal
 
 -- Greeting by greeting (Bad).
 abbrev pub invariant-loop-i : goal.invariant-loop-i
-invariant-loop-i l = (l.i ≤ l.n) × (bad_by l.block (left l.cells l.n l.i) (drop l.i l.laws) ≡ bad_by l.block (rows_at l.cells l.n 1) l.laws)
-
-abbrev pub decreases-loop-i : goal.decreases-loop-i
-decreases-loop-i l = l.n - l.i
+invariant-loop-i l = bad_by l.block (left l.cells l.n l.i) (drop l.i l.laws) ≡ bad_by l.block (rows_at l.cells l.n 1) l.laws

@@ -30,7 +30,7 @@ returns-then-any_bad c =
     is-bad _ _ _ c.size_of-size.ensures c.rises.ensures (c.if-not-rises.false)
     c.distinct.ensures (c.if-not-distinct.false) c.any_bad.ensures c.if-any_bad.true
 
-pub returns : goal.returns
-returns c =
+pub returns-else-any_bad : goal.returns-else-any_bad
+returns-else-any_bad c =
     is-fine _ _ _ c.size_of-size.ensures c.rises.ensures (c.if-not-rises.false)
     c.distinct.ensures (c.if-not-distinct.false) c.any_bad.ensures c.if-any_bad.false

@@ -1,5 +1,5 @@
 -- Mark by mark, as the greeting is walked (Walking).
-use mathlib.Core.Path.{sym, ◌∙◌}
+use mathlib.Core.Path.{◌∙◌}
 use native.Mathlib.Omega.{arith}
 use Rattle.store_save.proofs.Walking.{walking-first, walking-small, walking-more}
 use Rattle.store_save.proofs.Walking.{walking-astray, walking_on, walking-turn, walking-end}
@@ -13,10 +13,10 @@ mark_is-requires c =
     let p = c.requires in
     (omega (arith, p.1), omega (arith, walking-small _ _ _ _ c.loop-at.invariant p.1))
 
-pub returns-in-Astray : goal.returns-in-Astray
-returns-in-Astray c =
+pub returns-in_err-i : goal.returns-in_err-i
+returns-in_err-i c =
     let p = c.requires in
-    walking-astray _ _ _ _ c.loop-at.invariant p.0 p.1 p.2 (omega arith) (sym c.in-Astray.is ∙ c.mark_is.ensures)
+    c.from_residual.ensures ∙ walking-astray _ _ _ _ c.loop-at.invariant p.0 p.1 p.2 (omega arith) (c.in_err-i.ensures)
 
 pub overflow_add-samples : goal.overflow_add-samples
 overflow_add-samples c =
@@ -32,8 +32,7 @@ loop-at-smaller c =
 pub loop-at-preserved : goal.loop-at-preserved
 loop-at-preserved c =
     let p = c.requires in
-    walking-turn _ _ _ _ c.loop-at.invariant p.0 p.1 p.2 (omega arith) (sym c.in-To.is ∙ c.mark_is.ensures)
-    c.walk_on-walked.ensures
+    walking-turn _ _ _ _ c.loop-at.invariant p.0 p.1 p.2 (omega arith) (c.in_ok-i.ensures) c.walk_on-walked.ensures
 
 pub returns : goal.returns
 returns c =

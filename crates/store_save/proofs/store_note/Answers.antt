@@ -10,10 +10,10 @@ take-requires c = let p = c.requires in (fine-law _ _ p.fine, omega (arith, p.sm
 pub put_taken-requires : goal.put_taken-requires
 put_taken-requires c =
     let p = c.requires in
-    let t = taken c.take.ensures c.in-Counted.is (fine-law _ _ p.fine) (omega (arith, p.small))
+    let t = taken c.take.ensures c.in-Some.is (fine-law _ _ p.fine) (omega (arith, p.small))
     c.take.auto.marks in
     (record { count = p.count; few = p.few; among = omega arith; room = omega (arith, p.room, heard-few t.heard) }, t)
 
-pub returns-in-Wrong : goal.returns-in-Wrong
-returns-in-Wrong c =
-    tally-wrong c.take.ensures c.requires.fine c.in-Wrong.is
+pub returns-in_default : goal.returns-in_default
+returns-in_default c =
+    tally-wrong c.take.ensures c.requires.fine c.in_default.is

@@ -27,15 +27,15 @@ pub returns-then-n-index : goal.returns-then-n-index
 returns-then-n-index c =
     let a = c.args in
     at-absent a.block.now a.table.now c.size_of-size.ensures c.sane.ensures (passed (goal.at.returns-then-n-index c).Else-not-sane) a.index
-    (omega (arith, c.wide-n.ensures))
+    (omega arith)
 
 pub tell-requires : goal.tell-requires
 tell-requires c =
     let n = noted (goal.at.tell-requires c).Else-not-sane in
-    (omega (arith, c.wide-n.ensures), n.order.few, n.count, omega (arith, n.cells))
+    (omega arith, n.order.few, n.count, omega (arith, n.cells))
 
 pub returns : goal.returns
 returns c =
     let a = c.args in
     at-found a.block.now a.table.now c.size_of-size.ensures c.sane.ensures (passed (goal.at.returns c).Else-not-sane) a.index
-    (omega (arith, c.wide-n.ensures)) c.tell.ensures
+    (omega arith) c.tell.ensures

@@ -1,9 +1,6 @@
-use Prim.Native.Nat.{◌-◌}
+use Rattle.store_rows.specs.Cells.{rows_in, rows_of}
 use Rattle.store_tell.proofs.Telling.{Seeing}
 use Rattle.store_tell.proofs.largest_gap.Given as goal
 
-abbrev pub invariant-loop-i : goal.invariant-loop-i
-invariant-loop-i l = Seeing l.table l.n l.size l.at l.best l.i
-
-abbrev pub decreases-loop-i : goal.decreases-loop-i
-decreases-loop-i l = l.n - l.i
+abbrev pub invariant-loop-r : goal.invariant-loop-r
+invariant-loop-r l = Seeing (rows_of l.table) l.size l.at l.best (rows_in l.r-iterator.cells.now)

@@ -1,16 +1,14 @@
 -- Three lines, then the law.
+use mathlib.Core.Path.{ap, ◌∙◌}
+use Rattle.store_text.specs.Passing.{as_head}
 use Rattle.store_text.proofs.Lines.{head-no-row, head-no-law, head-whole}
 use Rattle.store_text.proofs.head_at.Goals as goal
 
-pub returns-in-Nothing : goal.returns-in-Nothing
-returns-in-Nothing c = head-no-row _ _ _ (rw c.in-Nothing.is at c.line_of.ensures)
+pub returns-in_err-line : goal.returns-in_err-line
+returns-in_err-line c = ap as_head c.from_residual.ensures ∙ head-no-row _ _ _ (c.in_err-line.ensures)
 
-pub returns-in-Not : goal.returns-in-Not
-returns-in-Not c =
-    head-no-law _ _ _ (rw c.in-Here.is at c.line_of.ensures)
-    (rw c.in-Not.is at c.ranged_line.ensures)
+pub returns-in_err-law : goal.returns-in_err-law
+returns-in_err-law c = ap as_head c.from_residual-in_err-law.ensures ∙ head-no-law _ _ _ (c.in_ok-line.ensures) (c.in_err-law.ensures)
 
-pub returns-in-Got : goal.returns-in-Got
-returns-in-Got c =
-    head-whole _ _ _ (rw c.in-Here.is at c.line_of.ensures)
-    (rw c.in-Got.is at c.ranged_line.ensures)
+pub returns : goal.returns
+returns c = head-whole _ _ _ (c.in_ok-line.ensures) (c.in_ok-law.ensures)

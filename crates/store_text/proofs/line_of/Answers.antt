@@ -1,23 +1,19 @@
 -- Three lines, one after another.
+use mathlib.Core.Path.{ap, ◌∙◌}
+use Rattle.store_text.specs.Fills.{as_row}
 use Rattle.store_text.proofs.Lines.{no-prompt, no_start, no-octets, row-whole}
 use Rattle.store_text.proofs.line_of.Goals as goal
 
-pub returns-in-Not : goal.returns-in-Not
-returns-in-Not c = no-prompt _ _ _ (rw c.in-Not.is at c.ranged_line.ensures)
+pub returns-in_err-number : goal.returns-in_err-number
+returns-in_err-number c = ap as_row c.from_residual.ensures ∙ no-prompt _ _ _ (c.in_err-number.ensures)
 
-pub returns-in-Not-ranged_line : goal.returns-in-Not-ranged_line
-returns-in-Not-ranged_line c =
-    no_start _ _ _ (rw c.in-Got.is at c.ranged_line.ensures)
-    (rw c.in-Not-ranged_line.is at c.ranged_line-in-Got.ensures)
+pub returns-in_err-start : goal.returns-in_err-start
+returns-in_err-start c = ap as_row c.from_residual-in_err-start.ensures ∙ no_start _ _ _ (c.in_ok-number.ensures) (c.in_err-start.ensures)
 
-pub returns-in-Not-ranged_line-2 : goal.returns-in-Not-ranged_line-2
-returns-in-Not-ranged_line-2 c =
-    no-octets _ _ _ (rw c.in-Got.is at c.ranged_line.ensures)
-    (rw c.in-Got-ranged_line.is at c.ranged_line-in-Got.ensures)
-    (rw c.in-Not-ranged_line-2.is at c.ranged_line-in-Got-ranged_line.ensures)
+pub returns-in_err-octets : goal.returns-in_err-octets
+returns-in_err-octets c =
+    ap as_row c.from_residual-in_err-octets.ensures
+    ∙ no-octets _ _ _ (c.in_ok-number.ensures) (c.in_ok-start.ensures) (c.in_err-octets.ensures)
 
-pub returns-in-Got-ranged_line-2 : goal.returns-in-Got-ranged_line-2
-returns-in-Got-ranged_line-2 c =
-    row-whole _ _ _ (rw c.in-Got.is at c.ranged_line.ensures)
-    (rw c.in-Got-ranged_line.is at c.ranged_line-in-Got.ensures)
-    (rw c.in-Got-ranged_line-2.is at c.ranged_line-in-Got-ranged_line.ensures)
+pub returns : goal.returns
+returns c = row-whole _ _ _ (c.in_ok-number.ensures) (c.in_ok-start.ensures) (c.in_ok-octets.ensures)

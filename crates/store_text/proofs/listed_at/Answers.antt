@@ -1,18 +1,14 @@
 -- The lines up to the law, and those after it.
-use mathlib.Core.Path.{sym, ap, ◌∙◌}
+use mathlib.Core.Path.{ap, ◌∙◌}
 use Rattle.store_text.specs.Passing.{as_head}
 use Rattle.store_text.proofs.Lines.{listed-no-head, listed-astray, listed-whole}
 use Rattle.store_text.proofs.listed_at.Goals as goal
 
-pub returns-in-Missing : goal.returns-in-Missing
-returns-in-Missing c = listed-no-head _ _ _ (sym (ap as_head c.in-Missing.is) ∙ c.head_at.ensures)
+pub returns-in_err-head : goal.returns-in_err-head
+returns-in_err-head c = ap as_head c.from_residual.ensures ∙ listed-no-head _ _ _ (c.in_err-head.ensures)
 
-pub returns-in-Astray : goal.returns-in-Astray
-returns-in-Astray c =
-    listed-astray _ _ _ (sym (ap as_head c.in-Begun.is) ∙ c.head_at.ensures)
-    (sym c.in-Astray.is ∙ c.note_past.ensures)
+pub returns-in_err-b : goal.returns-in_err-b
+returns-in_err-b c = ap as_head c.from_residual-in_err-b.ensures ∙ listed-astray _ _ _ (c.in_ok-head.ensures) (c.in_err-b.ensures)
 
-pub returns-in-To : goal.returns-in-To
-returns-in-To c =
-    listed-whole _ _ _ (sym (ap as_head c.in-Begun.is) ∙ c.head_at.ensures)
-    (sym c.in-To.is ∙ c.note_past.ensures)
+pub returns : goal.returns
+returns c = listed-whole _ _ _ (c.in_ok-head.ensures) (c.in_ok-b.ensures)

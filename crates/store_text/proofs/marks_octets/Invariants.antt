@@ -1,4 +1,4 @@
-use Prim.Native.Nat.{◌*◌, ◌-◌, ◌≤◌}
+use Prim.Native.Nat.{◌*◌}
 use Rattle.store_notes.specs.Cells.{marks_in}
 use Rattle.store_text.specs.Noted.{marks_text}
 use Rattle.store_text.proofs.Writing.{Counting}
@@ -7,7 +7,4 @@ use Rattle.store_text.proofs.marks_octets.Given as goal
 
 -- Counted mark by mark (Writing, Counting).
 abbrev pub invariant-loop-j : goal.invariant-loop-j
-invariant-loop-j l = (l.j ≤ l.m) × Counting (marks_text (marks_in l.m l.cells)) (marks_left l.cells l.m l.j) l.sum (27 * l.j)
-
-abbrev pub decreases-loop-j : goal.decreases-loop-j
-decreases-loop-j l = l.m - l.j
+invariant-loop-j l = Counting (marks_text (marks_in l.m l.cells)) (marks_left l.cells l.m l.j) l.sum (27 * l.j)

@@ -6,5 +6,5 @@ use Rattle.store_text.proofs.no_mark.Goals as goal
 pub returns-then-has_word : goal.returns-then-has_word
 returns-then-has_word c = is-more _ _ (sym c.has_word.ensures ∙ c.if-has_word.true)
 
-pub returns : goal.returns
-returns c = is-end _ _ (sym c.has_word.ensures ∙ c.if-has_word.false)
+pub returns-else-has_word : goal.returns-else-has_word
+returns-else-has_word c = is-end _ _ (sym c.has_word.ensures ∙ c.if-has_word.false)

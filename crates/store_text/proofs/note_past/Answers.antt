@@ -1,11 +1,10 @@
 -- Samples, then marks.
-use Rattle.text_keyvalue.proofs.Numbers.{told}
+use mathlib.Core.Path.{◌∙◌}
 use Rattle.store_text.proofs.Marks.{note-no-samples, note-marks}
 use Rattle.store_text.proofs.note_past.Goals as goal
 
-pub returns-in-Not : goal.returns-in-Not
-returns-in-Not c = note-no-samples _ _ _ (told c.in-Not.is c.line_at.ensures)
+pub returns-in_err-a : goal.returns-in_err-a
+returns-in_err-a c = c.from_residual.ensures ∙ note-no-samples _ _ _ (c.in_err-a.ensures)
 
-pub returns-in-Got : goal.returns-in-Got
-returns-in-Got c =
-    note-marks _ _ _ (told c.in-Got.is c.line_at.ensures) c.marks_past.ensures
+pub returns : goal.returns
+returns c = note-marks _ _ _ (c.in_ok-a.ensures) c.marks_past.ensures

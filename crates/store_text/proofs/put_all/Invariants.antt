@@ -1,4 +1,3 @@
-use Prim.Native.Nat.{◌-◌, ◌≤◌}
 use Rattle.store_text.specs.Noted.{listed_text}
 use Rattle.store_text.specs.Held.{held_in}
 use Rattle.store_text.proofs.Writing.{Putting, Within, text_left}
@@ -6,8 +5,5 @@ use Rattle.store_text.proofs.put_all.Given as goal
 
 -- Greeting by greeting, each behind those before it (Writing, Putting).
 abbrev pub invariant-loop-i : goal.invariant-loop-i
-invariant-loop-i l = (l.i ≤ l.n) × Within l.heads l.marks l.n l.from l.i
+invariant-loop-i l = Within l.heads l.marks l.n l.from l.i
     × Putting (listed_text (held_in l.table l.heads l.marks l.n)) (text_left l.table l.heads l.marks l.n l.from l.i) l.initial.out l.start l.out l.at
-
-abbrev pub decreases-loop-i : goal.decreases-loop-i
-decreases-loop-i l = l.n - l.i

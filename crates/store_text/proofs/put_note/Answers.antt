@@ -1,11 +1,8 @@
 -- Two lines, then the marks.
-use Prim.Native.Nat.{ℕ, ◌+◌}
-use mathlib.Core.Path.{ap}
+use Prim.Native.Nat.{◌+◌}
 use native.Mathlib.Omega.{arith}
-use lib.ListN.{length}
-use Rattle.store_notes.specs.Cells.{marks_in}
-use Rattle.text_lines.proofs.Putting.{puts_then, puts-as}
-use Rattle.store_text.specs.Noted.{marks_text, note_text}
+use Rattle.text_lines.proofs.Putting.{puts_then}
+use Rattle.store_text.specs.Noted.{note_text}
 use Rattle.store_text.specs.Held.{note_at}
 use Rattle.store_text.proofs.Writing.{note-length}
 use Rattle.store_text.proofs.put_note.Goals as goal
@@ -27,14 +24,10 @@ put_marks-requires c =
     let p = c.put_line-a.ensures.puts in
     let q = c.put_line-b.ensures.puts in
     let r = c.type_inv.cells (a.k + 2) in
-    let w = c.wide.ensures in
-    let e = ap (λ (m : ℕ). length (marks_text (marks_in m a.cells.now))) w in
     let n = note-length (note_at a.heads.now a.k a.cells.now) in
-    (omega (arith, w), omega (arith, w, r), omega (arith, n, e, p.place, p.size, q.place, q.size))
+    (omega arith, omega (arith, r), omega (arith, n, p.place, p.size, q.place, q.size))
 
 pub returns : goal.returns
 unfolding note_text
 returns c =
-    let a = c.args in
-    let e = ap (λ (n : ℕ). marks_text (marks_in n a.cells.now)) c.wide.ensures in
-    puts_then c.put_line-a.ensures.puts (puts_then c.put_line-b.ensures.puts (puts-as e c.put_marks.ensures))
+    puts_then c.put_line-a.ensures.puts (puts_then c.put_line-b.ensures.puts c.put_marks.ensures)

@@ -1,11 +1,8 @@
-use Prim.Native.Nat.{◌-◌, ◌≤◌}
+use Prim.Native.Nat.{◌+◌, ◌≤◌}
 use mathlib.Core.Path.{◌≡◌}
-use lib.ListN.{length, drop}
+use lib.ListN.{drop}
 use Rattle.text_keyvalue.specs.Reading.{digits_on, number, most, capped}
 use Rattle.text_keyvalue.proofs.number_at.Given as goal
 
 abbrev pub invariant-loop-i : goal.invariant-loop-i
-invariant-loop-i l = (l.i ≤ length l.text) × (l.v ≤ most) × (capped (number l.text l.at) ≡ capped (digits_on l.v l.i (drop l.i l.text)))
-
-abbrev pub decreases-loop-i : goal.decreases-loop-i
-decreases-loop-i l = length l.text - l.i
+invariant-loop-i l = (l.v ≤ most) × (capped (number l.fn.text l.fn.at) ≡ capped (digits_on l.v (l.fn.at + l.i) (drop (l.fn.at + l.i) l.fn.text)))

@@ -2,14 +2,11 @@
 use mathlib.Core.Path.{ap}
 use lib.ListN.{length}
 use native.Mathlib.Omega.{arith}
-use Rattle.text_lines.proofs.Spelling.{spelled}
 use Rattle.text_lines.proofs.Putting.{puts-as}
 use Rattle.text_lines.proofs.put_number.Goals as goal
 
 pub put_word-requires : goal.put_word-requires
-put_word-requires c = let e = ap length (spelled _ c.spell-d.ensures) in omega arith
+put_word-requires c = omega (arith, ap length c.spell.ensures)
 
 pub returns : goal.returns
-returns c =
-    let s = c.spell-d.ensures in
-    puts-as (spelled _ s) c.put_word.ensures
+returns c = puts-as c.spell.ensures c.put_word.ensures

@@ -18,6 +18,6 @@ overflow_add-result c =
     let a = c.args in
     record { fits = omega (arith, xor_lt 7 (a.d - a.below) a.mask (omega arith) c.requires.0) }
 
-pub returns : goal.returns
+pub returns-else-d-below : goal.returns-else-d-below
 unfolding sample_of
-returns c = rw (le-ltb c.args.d c.args.below (omega arith)) refl
+returns-else-d-below c = rw (le-ltb c.args.d c.args.below (omega arith)) refl

@@ -4,7 +4,7 @@ use mathlib.Core.Path.{◌≡◌, ◌∙◌}
 use native.Mathlib.Omega.{arith}
 use native.Mathlib.Nat.{le_of_lt}
 use lib.ListN.{length, drop, length-drop}
-use Rattle.rules.specs.declared.Ending.TheVariants.{Done}
+use Rattle.std.proofs.Common.{Ok}
 use Rattle.rules.proofs.Lent.{lent_length}
 use Rattle.walk.proofs.Told.{Bounds}
 use Rattle.walk.proofs.Along.{along-ended, along-last}
@@ -13,7 +13,7 @@ use Rattle.walk.proofs.keep_on.Goals.{After-step-r}
 use Rattle.walk.proofs.keep_on.Goals as goal
 
 -- a frame that was kept
-module _ (c : After-step-r) (e : c.step-r.result.end ≡ Done) where
+module _ (c : After-step-r) (e : c.step-r.result.end ≡ Ok tt) where
   bounds : Bounds (drop c.frames.place
       c.args.octets.now)
       (length c.args.out.now - c.frames.to)
@@ -44,13 +44,13 @@ step-r-requires c =
 
 pub overflow_add-place : goal.overflow_add-place
 overflow_add-place c =
-    omega (arith, inside (goal.at.overflow_add-place c).After-step-r c.in-Done.is)
+    omega (arith, inside (goal.at.overflow_add-place c).After-step-r c.in-Ok.is)
 
 pub overflow_add-used : goal.overflow_add-used
 overflow_add-used c =
     omega (
       arith,
-      inside (goal.at.overflow_add-used c).After-step-r c.in-Done.is,
+      inside (goal.at.overflow_add-used c).After-step-r c.in-Ok.is,
       c.frames.invariant.1,
     )
 
@@ -58,7 +58,7 @@ pub overflow_add-to : goal.overflow_add-to
 overflow_add-to c =
     omega (
       arith,
-      (bounds (goal.at.overflow_add-to c).After-step-r c.in-Done.is).fits,
+      (bounds (goal.at.overflow_add-to c).After-step-r c.in-Ok.is).fits,
       c.frames.invariant.0.kept.room,
     )
 
@@ -68,7 +68,7 @@ frames-smaller c = omega (arith, c.if-frames-count.false)
 pub frames-preserved : goal.frames-preserved
 frames-preserved c = (
   keep-turn _ _ _ _ _ _ c.frames.invariant.0 c.if-frames-count.false
-      c.if-octets-place.false c.step-r.ensures c.in-Done.is,
+      c.if-octets-place.false c.step-r.ensures c.in-Ok.is,
   omega (arith, c.frames.invariant.1),
 )
 
@@ -92,13 +92,13 @@ returns-then-octets-place c =
     = omega (arith, c.frames.invariant.1) in
     rw u (keeps _ _ _ _ _ _ w (along-ended _ _ _ _ _ _ w.along (keep-size _ _ _ _ _ _ w) c.if-octets-place.true))
 
-pub shape_of-out-in-Refused : goal.shape_of-out-in-Refused
-shape_of-out-in-Refused c =
+pub shape_of-out-in-Err : goal.shape_of-out-in-Err
+shape_of-out-in-Err c =
     c.step-r.auto.out ∙ lent_length c.frames.invariant.0.kept
 
-pub returns-in-Refused : goal.returns-in-Refused
-returns-in-Refused c =
+pub returns-in-Err : goal.returns-in-Err
+returns-in-Err c =
     let u : c.frames.used ≡ c.frames.place - c.args.at
     = omega (arith, c.frames.invariant.1) in
     rw u (keep-refused _ _ _ _ _ _ c.frames.invariant.0 c.if-frames-count.false
-    c.if-octets-place.false c.step-r.ensures c.in-Refused.why c.in-Refused.is)
+    c.if-octets-place.false c.step-r.ensures c.in-Err.why c.in-Err.is)

@@ -8,20 +8,16 @@ use Rattle.rules.proofs.Walk.{walk-fuel}
 use Rattle.walk.proofs.Keeping.{walks-none}
 use Rattle.walk.proofs.walk.Goals as goal
 
-pub returns-in-Refused : goal.returns-in-Refused
-returns-in-Refused c =
+pub returns-in-Err : goal.returns-in-Err
+returns-in-Err c =
     let a = c.args in
-    rw (
-      c.answer.ensures,
-      walk_refused a.octets.now a.law a.set (length a.out.now)
-          (sym c.guard_stream.ensures ∙ c.in-Refused.is),
-    ) (walks-none _ _)
+    rw (walk_refused a.octets.now a.law a.set (length a.out.now) (sym c.guard_stream.ensures ∙ c.in-Err.is)) (walks-none _ _)
 
-pub returns-in-Done : goal.returns-in-Done
-returns-in-Done c =
+pub returns-in-Ok : goal.returns-in-Ok
+returns-in-Ok c =
     let a = c.args in
     let n = length a.octets.now in
-    let g = sym c.guard_stream.ensures ∙ c.in-Done.is in
+    let g = sym c.guard_stream.ensures ∙ c.in-Ok.is in
     rw (
       walk-allowed a.octets.now a.law a.set (length a.out.now) g,
       walk-fuel a.octets.now a.law

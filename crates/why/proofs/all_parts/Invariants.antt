@@ -1,4 +1,4 @@
-use Prim.Native.Nat.{◌*◌, ◌-◌, ◌≤◌}
+use Prim.Native.Nat.{◌*◌, ◌≤◌}
 use mathlib.Core.Bool.{true}
 use mathlib.Core.Path.{◌≡◌}
 use lib.ListN.{length}
@@ -8,12 +8,9 @@ use Rattle.why.proofs.all_parts.Given as goal
 
 -- After i parts there are at most i times a part's samples, and no more frames; where more may come, they are whole parts, cut as `pack`
 -- cuts them.
-abbrev pub invariant-loop-i : goal.invariant-loop-i
-invariant-loop-i l =
+abbrev pub invariant-parts : goal.invariant-parts
+invariant-parts l =
     (length l.part ≡ part_size)
-    × (l.run.frames ≤ l.i * part_size)
-    × (l.run.samples ≤ l.i * part_size)
+    × (l.run.frames ≤ l.counter * part_size)
+    × (l.run.samples ≤ l.counter * part_size)
     × (l.run.more ≡ true → PartsIn l.job.length l.run.frames l.run.samples)
-
-abbrev pub decreases-loop-i : goal.decreases-loop-i
-decreases-loop-i l = 160000000000000 - l.i

@@ -4,7 +4,7 @@ use mathlib.Core.Path.{refl, sym, ◌∙◌}
 use lib.ListN.{length}
 use native.Mathlib.Omega.{arith}
 use Rattle.tool_packing.proofs.Lengths.{Fits, next_fits}
-use Rattle.why.proofs.Cutting.{cut-first, frame-in, cut_on, parts-on, none_more}
+use Rattle.why.proofs.Cutting.{cut-first, frame-in, cut_on, parts-on}
 use Rattle.why.proofs.part_frames.Goals.{Else-len-eq0}
 use Rattle.why.proofs.part_frames.Goals as goal
 
@@ -50,10 +50,6 @@ show_wanted-requires c =
     frame-in c.args.job.length c.args.run.frames c.args.run.samples c.args.part.now c.loop-rt.from c.loop-rt.k
     c.requires.parts_in c.loop-rt.invariant.2 c.loop-rt.invariant.3 len (c.loop-rt.from + len) c.next_length-len.ensures
     (some (goal.at.show_wanted-requires c).Else-len-eq0) refl
-
-pub returns-in-Err : goal.returns-in-Err
-returns-in-Err c =
-    let i = c.loop-rt.invariant in record { frames = omega (arith, i.0, i.1); samples = omega (arith, i.0); whole = λ g. none_more g }
 
 pub loop-rt-smaller : goal.loop-rt-smaller
 loop-rt-smaller c =

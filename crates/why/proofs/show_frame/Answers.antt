@@ -13,6 +13,5 @@ write_frame-requires c =
     record {
       cut = c.requires;
       shows =
-          shown _ _ _ _ _ _ c.why_samples.ensures c.in-Told.is
-          c.put_frame-n.ensures.puts;
+          shown _ _ _ _ _ c.in-Ok.r c.in-Ok.ensures c.put_frame-n.ensures.puts;
     }

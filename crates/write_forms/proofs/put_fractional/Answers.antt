@@ -5,18 +5,17 @@ use mathlib.Core.List.{List, ◌++◌}
 use mathlib.Core.Bool.{Bool, true, false, cond}
 use native.Mathlib.Omega.{arith}
 use lib.Dec.{eqb}
-use lib.ListN.{length, take, length-append}
+use lib.ListN.{length, length-append}
 use Rattle.rules.specs.Bits.{low_bits}
 use Rattle.rules.specs.Fractional.{first_code, fractional_body}
 use Rattle.rules.proofs.Octets.{length-low_bits}
-use Rattle.value_rows.specs.declared.Row.{Row}
 use Rattle.write_scan.proofs.Tests.{law-for}
 use Rattle.write_bits.specs.Puts.{Puts}
 use Rattle.write_bits.proofs.Putting.{puts_then, puts-as, able-then}
 use Rattle.write_fractional.specs.Digits.{body_in, DigitsFit}
 use Rattle.write_fractional.proofs.Digits.{digits-fit-row, body-told}
-use Rattle.write_forms.proofs.Form.{Fresh, fresh-is, fresh-able, packed, cells-length}
-use Rattle.write_forms.proofs.put_fractional.Goals.{Start, After-wide, After-row_at-row, After-put_body-r}
+use Rattle.write_forms.proofs.Form.{fresh-is, fresh-able, packed}
+use Rattle.write_forms.proofs.put_fractional.Goals.{Start, After-row_at, After-put_body}
 use Rattle.write_forms.proofs.put_fractional.Goals as goal
 
 first_small : (n : ℕ) → first_code n ≤ 28
@@ -33,92 +32,67 @@ first_small n = go (eqb n 40) (eqb n 80) (eqb n 160) (eqb n 240)
 -- the first octet, and the body
 module _ (c : Start) where
   abbrev code : ℕ
-  code = first_code c.args.n + c.args.k
+  code = first_code (length c.args.frame.now) + c.args.k
 
   abbrev body : List ℕ
-  body = fractional_body c.args.mask c.args.k (take c.args.n c.args.samples.now)
+  body = fractional_body c.args.mask c.args.k c.args.frame.now
 
   sizes : length (low_bits 8 code ++ body) ≡ 8 + length body
   sizes = length-append (low_bits 8 code) body ∙ ap (λ (k : ℕ). k + length body) (length-low_bits 8 code)
 
-module _ (c : After-wide) where
-  new : Fresh c.fresh-p.result
-  new = fresh-is c.fresh-p.ensures
-
-pub put-q-requires : goal.put-q-requires
-put-q-requires c =
+pub put-requires : goal.put-requires
+put-requires c =
     record {
-      able = fresh-able (new c) (omega (arith, c.requires.samples_len_bound, sizes (goal.at.put-q-requires c).Start));
-      n_bound = (omega arith, omega (arith, c.wide.ensures.0, c.first_code.ensures, first_small c.args.n, c.requires.frame_in.2));
+      able = fresh-able (fresh-is c.new-pen.ensures) (omega (arith, c.requires.samples_len_bound, sizes (goal.at.put-requires c).Start));
+      n_bound = (
+        omega arith,
+        omega (arith, c.from.ensures, c.first_code.ensures, first_small (length c.args.frame.now), c.requires.frame_in.2),
+      );
     }
 
-pub row_at-row-requires : goal.row_at-row-requires
-row_at-row-requires c = c.requires.frame_in.2
+pub row_at-requires : goal.row_at-requires
+row_at-requires c = c.requires.frame_in.2
 
 -- once the row is known
-module _ (c : After-row_at-row) where
-  abbrev row : Row
-  row = c.row_at-row.result
+module _ (c : After-row_at) where
+  fit : DigitsFit c.args.mask c.row_at.result c.args.frame.now
+  fit = digits-fit-row (law-for c.args.mask c.requires.frame_in.1) c.args.k c.requires.frame_in.2 c.row_at.ensures
+      c.args.frame.now c.requires.by_index
 
-  code_is : c.wide.result + c.args.k ≡ (first_code c.args.n + c.args.k)
-  code_is = ap (λ (x : ℕ). x + c.args.k) (c.wide.ensures.0 ∙ c.first_code.ensures)
-
-  fit : DigitsFit c.args.mask row (take c.args.n c.args.samples.now)
-  fit = digits-fit-row (law-for c.args.mask c.requires.frame_in.1) c.args.k c.requires.frame_in.2 c.row_at-row.ensures
-      (take c.args.n c.args.samples.now) c.requires.by_index
-
-  abbrev groups : List ℕ
-  groups = body_in c.args.mask row c.args.n (take c.args.n c.args.samples.now)
-
-  body_is : groups ≡ (fractional_body c.args.mask c.args.k (take c.args.n c.args.samples.now))
+  body_is : body_in c.args.mask c.row_at.result c.args.frame.now ≡ fractional_body c.args.mask c.args.k c.args.frame.now
   body_is =
-      body-told (law-for c.args.mask c.requires.frame_in.1) c.args.k c.requires.frame_in.2 c.row_at-row.ensures
-      (take c.args.n c.args.samples.now) c.requires.by_index
-      (cells-length c.requires.frame_in.0)
+      body-told (law-for c.args.mask c.requires.frame_in.1) c.args.k c.requires.frame_in.2 c.row_at.ensures
+      c.args.frame.now c.requires.by_index
 
-pub put_body-r-requires : goal.put_body-r-requires
-put_body-r-requires c =
-    let put = c.put-q in record {
+pub put_body-requires : goal.put_body-requires
+put_body-requires c =
+    let put = c.put in record {
       frame_in = c.requires.frame_in.0;
-      digits_fit = fit (goal.at.put_body-r-requires c).After-row_at-row;
-      able = able-then (length (body_in c.args.mask (c.row_at-row.result) c.args.n (take c.args.n c.args.samples.now)))
-          (fresh-able (new (goal.at.put_body-r-requires c).After-wide) c.requires.samples_len_bound) put.ensures put.auto.out
+      digits_fit = fit (goal.at.put_body-requires c).After-row_at;
+      able = able-then (length (body_in c.args.mask c.row_at.result c.args.frame.now))
+          (fresh-able (fresh-is c.new-pen.ensures) c.requires.samples_len_bound) put.ensures put.auto.out
           (omega (
             arith,
-            sizes (goal.at.put_body-r-requires c).Start,
-            ap length
-                (body_is (goal.at.put_body-r-requires c).After-row_at-row),
-            length-low_bits 8 (c.wide.result + c.args.k),
+            sizes (goal.at.put_body-requires c).Start,
+            ap length (body_is (goal.at.put_body-requires c).After-row_at),
+            length-low_bits 8 (c.from.result + c.args.k),
           ));
     }
 
-module _ (c : After-put_body-r) where
-  abbrev row' : Row
-  row' = c.row_at-row.result
-
-  code_is' : c.wide.result + c.args.k ≡ (first_code c.args.n + c.args.k)
-  code_is' = ap (λ (x : ℕ). x + c.args.k) (c.wide.ensures.0 ∙ c.first_code.ensures)
-
-  abbrev groups' : List ℕ
-  groups' = body_in c.args.mask row' c.args.n (take c.args.n c.args.samples.now)
-
-  body_is' : groups' ≡ (fractional_body c.args.mask c.args.k (take c.args.n c.args.samples.now))
-  body_is' =
-      body-told (law-for c.args.mask c.requires.frame_in.1) c.args.k c.requires.frame_in.2 c.row_at-row.ensures
-      (take c.args.n c.args.samples.now) c.requires.by_index
-      (cells-length c.requires.frame_in.0)
-
-  laid : Puts c.args.out.now c.fresh-p.result
-      (low_bits 8 (first_code c.args.n + c.args.k) ++ (fractional_body c.args.mask c.args.k (take c.args.n c.args.samples.now)))
-      c.put_body-r.new.out c.put_body-r.result
-  laid = puts-as (puts_then {b = (body_in c.args.mask (c.row_at-row.result) c.args.n (take c.args.n c.args.samples.now))} c.put-q.ensures c.put_body-r.ensures)
-      (ap₂ ◌++◌ (ap (low_bits 8) code_is') body_is')
+module _ (c : After-put_body) where
+  laid : Puts c.args.out.now c.new-pen.result
+      (low_bits 8 (first_code (length c.args.frame.now) + c.args.k) ++ fractional_body c.args.mask c.args.k c.args.frame.now)
+      c.put_body.new.out c.put_body.new.pen
+  laid =
+      puts-as (puts_then {b = body_in c.args.mask c.row_at.result c.args.frame.now} c.put.ensures c.put_body.ensures)
+      (ap₂ ◌++◌ (ap (low_bits 8) (ap (λ (x : ℕ). x + c.args.k) (c.from.ensures ∙ c.first_code.ensures)))
+      (body-told (law-for c.args.mask c.requires.frame_in.1) c.args.k c.requires.frame_in.2 c.row_at.ensures
+      c.args.frame.now c.requires.by_index))
 
 pub finish-requires : goal.finish-requires
 finish-requires c =
-    able-then 0 (fresh-able (new (goal.at.finish-requires c).After-wide) c.requires.samples_len_bound) (laid (goal.at.finish-requires c).After-put_body-r)
-    (c.put_body-r.auto.out ∙ c.put-q.auto.out) (omega arith)
+    able-then 0 (fresh-able (fresh-is c.new-pen.ensures) c.requires.samples_len_bound) (laid (goal.at.finish-requires c).After-put_body)
+    (c.put_body.auto.out ∙ c.put.auto.out) (omega arith)
 
 pub returns : goal.returns
-returns c =
-    packed (new (goal.at.returns c).After-wide) (laid (goal.at.returns c).After-put_body-r) c.finish.ensures
+returns c = packed (fresh-is c.new-pen.ensures) (laid (goal.at.returns c).After-put_body) c.finish.ensures

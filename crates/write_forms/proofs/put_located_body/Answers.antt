@@ -26,16 +26,16 @@ module _ (c : Start) where
   size : 3 + length values ≡ length (located_form_of c.args.plan c.args.a.now c.args.b.now c.args.c.now)
   size = number-then 3 top values says
 
-pub put-q-requires : goal.put-q-requires
-put-q-requires c =
+pub put-requires : goal.put-requires
+put-requires c =
     record {
-      able = able-as c.requires.able (omega (arith, size (goal.at.put-q-requires c).Start));
+      able = able-as c.requires.able (omega (arith, size (goal.at.put-requires c).Start));
       n_bound = (omega arith, omega (arith, c.requires.located_ready.row, c.requires.located_ready.flag));
     }
 
 pub put_values-requires : goal.put_values-requires
 put_values-requires c =
-    let put = c.put-q in
+    let put = c.put in
     record {
       values_ready = c.requires.located_ready.values;
       able = able-then (length (values_form_of c.args.plan c.args.a.now c.args.b.now c.args.c.now)) c.requires.able put.ensures
@@ -44,5 +44,5 @@ put_values-requires c =
 
 pub returns : goal.returns
 returns c =
-    puts-as (puts_then {b = (values_form_of c.args.plan c.args.a.now c.args.b.now c.args.c.now)} c.put-q.ensures c.put_values.ensures)
+    puts-as (puts_then {b = (values_form_of c.args.plan c.args.a.now c.args.b.now c.args.c.now)} c.put.ensures c.put_values.ensures)
     (says (goal.at.returns c).Start)

@@ -25,31 +25,31 @@ module _ (c : Start) where
   sizes : length (first ++ (code ++ runs)) ≡ length first + (length code + length runs)
   sizes = length_three first code runs
 
-pub put_start-q-requires : goal.put_start-q-requires
-put_start-q-requires c =
+pub put_start-requires : goal.put_start-requires
+put_start-requires c =
     record {
       mark_bound = c.requires.rice_ready.mark;
-      able = able-as c.requires.able (omega (arith, sizes (goal.at.put_start-q-requires c).Start));
+      able = able-as c.requires.able (omega (arith, sizes (goal.at.put_start-requires c).Start));
     }
 
-pub put-v-requires : goal.put-v-requires
-put-v-requires c =
+pub put-requires : goal.put-requires
+put-requires c =
     let k = c.code_of-k.ensures in record {
-      able = able-then _ c.requires.able c.put_start-q.ensures c.put_start-q.auto.out
-          (omega (arith, sizes (goal.at.put-v-requires c).Start, bits-length _ _ k.says));
+      able = able-then _ c.requires.able c.put_start.ensures c.put_start.auto.out
+          (omega (arith, sizes (goal.at.put-requires c).Start, bits-length _ _ k.says));
       n_bound = (omega (arith, k.few), k.fits);
     }
 
 pub put_runs-requires : goal.put_runs-requires
 put_runs-requires c =
-    let q = c.requires.rice_ready in let put = c.put-v in record {
-      s_bound = (omega (arith, q.most), (q.few, omega (arith, q.few, q.size)));
-      able = able-then (length (rice_forms c.args.r.s (take c.args.r.count c.args.runs.now))) c.requires.able (puts_then c.put_start-q.ensures put.ensures)
-          (put.auto.out ∙ c.put_start-q.auto.out)
+    let q = c.requires.rice_ready in let put = c.put in record {
+      s_bound = omega (arith, q.most);
+      able = able-then (length (rice_forms c.args.r.s (take c.args.r.count c.args.runs.now))) c.requires.able (puts_then c.put_start.ensures put.ensures)
+          (put.auto.out ∙ c.put_start.auto.out)
           (rw length-append (omega (arith, sizes (goal.at.put_runs-requires c).Start, ap length c.code_of-k.ensures.says)));
     }
 
 pub returns : goal.returns
 returns c =
-    puts_then c.put_start-q.ensures
-    (puts_then (puts-as c.put-v.ensures c.code_of-k.ensures.says) c.put_runs.ensures)
+    puts_then c.put_start.ensures
+    (puts_then (puts-as c.put.ensures c.code_of-k.ensures.says) c.put_runs.ensures)

@@ -1,31 +1,22 @@
-use mathlib.Core.Path.{ap₂}
-use Prim.Native.Nat.{◌+◌}
-use native.Mathlib.Omega.{arith}
-use native.Mathlib.Nat.{mul-le-mul}
-use Rattle.write_measure.proofs.Weighing.{least_start, least-turn, least-done, least-stop, no-fewer}
+use Rattle.std.proofs.Common.{arith, ap₂, ◌+◌}
+use Rattle.write_measure.proofs.Weighing.{least-better, least-same, least-done, least-stop, no-fewer}
+use Rattle.write_measure.proofs.least_s.Goals.{then-bits-best, else-bits-best}
 use Rattle.write_measure.proofs.least_s.Goals as goal
 
-pub loop-k-init : goal.loop-k-init
-loop-k-init c = least_start _ _ _ (omega arith) (ap₂ ◌+◌ c.octet.ensures.0 c.run_bits.ensures.0)
-    (omega (arith, c.octet.ensures.1, c.run_bits.ensures.1))
+pub returns-then-best-runs : goal.returns-then-best-runs
+returns-then-best-runs c =
+    least-stop c.loop-s.s c.loop-s.invariant (no-fewer c.args.extra.now c.args.runs.now c.loop-s.s c.if-best-runs.true)
 
-pub overflow_mul-count : goal.overflow_mul-count
-overflow_mul-count c =
-    let few = mul-le-mul {m₁ = 1 + c.loop-k.k} {n₂ = 321} {m₂ = 10} c.requires.count_bound.0
-    (omega (arith, c.loop-k-test.true, c.requires.le_most.1)) in
-    omega arith
-
-pub returns-then-best-count : goal.returns-then-best-count
-returns-then-best-count c =
-    let l = c.loop-k in
-    least-stop l.k l.invariant (no-fewer c.args.extra.now c.args.runs.now c.args.count l.k c.requires.count_bound.1 c.if-best-count.true)
-
-pub loop-k-preserved : goal.loop-k-preserved
-loop-k-preserved c = least-turn c.loop-k.k _
-    c.loop-k.invariant c.loop-k-test.true
-    (ap₂ ◌+◌ c.octet-in-loop-k.ensures.0 c.run_bits-in-loop-k.ensures.0)
-    (omega (arith, c.octet-in-loop-k.ensures.1, c.run_bits-in-loop-k.ensures.1)) c.lesser-best.ensures.0
-    c.lesser-best.ensures.1
+pub loop-s-preserved : goal.loop-s-preserved
+loop-s-preserved c =
+    let l = c.loop-s in
+    let is = ap₂ ◌+◌ c.from-in-loop-s.ensures c.run_bits-in-loop-s.ensures.0 in
+    elim c.if-bits-best.branch [
+      | then-bits-best w ↦ rw w.best-is
+          (least-better l.s _ l.invariant (omega arith) is (omega (arith, c.from-in-loop-s.ensures, c.fits-extra l.s, c.run_bits-in-loop-s.ensures.1))
+          w.if-bits-best.true)
+      | else-bits-best w ↦ rw w.best-is (least-same l.s _ l.invariant (omega arith) is w.if-bits-best.false)
+    ]
 
 pub returns : goal.returns
-returns c = least-done _ c.loop-k.invariant c.loop-k-test.false
+returns c = least-done _ c.loop-s.invariant (omega arith)

@@ -1,39 +1,16 @@
-use Prim.Native.Nat.{◌+◌}
-use mathlib.Core.Path.{◌≡◌}
-use native.Mathlib.Omega.{arith}
-use native.Mathlib.Nat.{mul-le-mul}
+use Rattle.std.proofs.Common.{get_or, arith}
+use lib.Pow.{shr_le}
 use Rattle.write_measure.proofs.Weighing.{bits_none, bits-turn}
 use Rattle.write_measure.proofs.run_bits.Goals as goal
 
-pub loop-j-init : goal.loop-j-init
-loop-j-init c = (omega arith, (bits_none c.args.s c.args.runs.now, omega arith))
+pub loop-v-init : goal.loop-v-init
+loop-v-init c = (bits_none c.args.s c.args.runs.now, omega arith)
 
-pub loop-j-preserved : goal.loop-j-preserved
-loop-j-preserved c =
-    let l = c.loop-j in (
-      omega arith,
-      (
-        bits-turn c.args.s c.args.runs.now l.j l.zeros _ (omega arith) l.invariant.1.0
-            c.zeros_of-zeros.ensures.0,
-        omega (arith, c.zeros_of-zeros.ensures.1),
-      ),
+pub loop-v-preserved : goal.loop-v-preserved
+loop-v-preserved c =
+    let l = c.loop-v in
+    let runs = c.args.runs.now in
+    let fits = (c.type_inv.runs l.v-index).fits in (
+      bits-turn c.args.s runs l.v-index l.zeros _ c.loop-v-test.true l.invariant.0 c.from-zeros.ensures,
+      omega (arith, c.from-zeros.ensures, shr_le (get_or runs l.v-index 0) c.args.s),
     )
-
-pub overflow_mul-result : goal.overflow_mul-result
-overflow_mul-result c =
-    let few = mul-le-mul {m₁ = 1 + c.args.s} {n₂ = 321} {m₂ = 16} c.requires.1.0
-    (omega (arith, c.requires.0)) in
-    omega arith
-
-pub overflow_add-result-2 : goal.overflow_add-result-2
-overflow_add-result-2 c =
-    let few = mul-le-mul {m₁ = 1 + c.args.s} {n₂ = 321} {m₂ = 16} c.requires.1.0
-    (omega (arith, c.requires.0)) in
-    omega arith
-
-pub returns : goal.returns
-returns c =
-    let few = mul-le-mul {m₁ = 1 + c.args.s} {n₂ = 321} {m₂ = 16} c.requires.1.0
-    (omega (arith, c.requires.0)) in
-    let e : c.loop-j.j ≡ c.args.count = omega arith in
-    (rw e at c.loop-j.invariant.1.0, omega arith)

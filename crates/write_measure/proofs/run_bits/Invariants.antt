@@ -1,11 +1,7 @@
-use Prim.Native.Nat.{◌+◌, ◌*◌, ◌-◌, ◌≤◌}
-use mathlib.Core.Path.{◌≡◌}
-use lib.ListN.{length, take}
+use Rattle.std.proofs.Common.{◌≡◌, ◌+◌, ◌*◌, ◌≤◌, length, take}
 use Rattle.rules.specs.Runs.{rice_forms}
 use Rattle.write_measure.proofs.run_bits.Given as goal
 
-abbrev pub invariant-loop-j : goal.invariant-loop-j
-invariant-loop-j l = (l.j ≤ l.count) × ((l.zeros + l.j * (1 + l.s) ≡ length (rice_forms l.s (take l.j l.runs))) × (l.zeros ≤ 65536 * l.j))
-
-abbrev pub decreases-loop-j : goal.decreases-loop-j
-decreases-loop-j l = l.count - l.j
+abbrev pub invariant-loop-v : goal.invariant-loop-v
+invariant-loop-v l =
+    (l.zeros + l.v-index * (1 + l.s) ≡ length (rice_forms l.s (take l.v-index l.runs))) × (l.zeros ≤ 65536 * l.v-index)

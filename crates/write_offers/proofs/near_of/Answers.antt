@@ -1,52 +1,35 @@
 -- No row, a rare one, or what value-location would write (Offering).
-use mathlib.Core.Path.{◌≡◌, sym, ◌∙◌}
-use borrow.Author.Tests.{lt-ltb, le-ltb}
-use Rattle.rules.specs.Chooses.{applies}
-use Rattle.write_located.proofs.Rows.{row_has, applied-is}
+use mathlib.Core.Path.{refl, sym, ◌∙◌}
+use Rattle.write_located.proofs.Rows.{row-none, row-has, applied-is}
 use Rattle.write_offers.proofs.Offering.{rowless, rare}
-use mathlib.Core.Bool.{true}
-use lib.ListN.{length, take}
-use lib.Seq.{length-take-le}
-use Rattle.write_offers.proofs.near_of.Goals.{Start, After-located_applies, Else-not-located_applies}
 use Rattle.write_offers.proofs.near_of.Goals as goal
 
-size : (c : Start) → length (take c.args.n c.args.samples.now) ≡ c.args.n
-size c = length-take-le c.args.n c.args.samples.now c.requires.frame_in.0.long
+pub returns-in-None : goal.returns-in-None
+returns-in-None c =
+    rowless c.args.mask c.args.frame.now refl c.requires.frame_in.1.1
+    (row-none c.tally_of-tally.ensures refl (sym c.row_of.ensures ∙ c.in-None.is))
 
-pub returns-then-row-ge4 : goal.returns-then-row-ge4
-returns-then-row-ge4 c =
-    let has = row_has c.tally_of-t.ensures (size (goal.at.returns-then-row-ge4 c).Start) c.row_of-row.ensures.0 in
-    rowless c.args.mask (take c.args.n c.args.samples.now) (size (goal.at.returns-then-row-ge4 c).Start) c.requires.frame_in.1.1
-    (sym has ∙ le-ltb _ 4 c.if-row-ge4.true)
+pub returns-then-not-zero_leads : goal.returns-then-not-zero_leads
+returns-then-not-zero_leads c =
+    let has = sym c.in-Some.is ∙ c.row_of.ensures in
+    let off = sym (applied-is c.tally_of-tally.ensures refl has c.zero_leads.ensures c.requires.frame_in.1.1) ∙ c.if-not-zero_leads.true in
+    (off, rare c.args.mask c.args.frame.now refl c.requires.frame_in.1.1 (row-has c.tally_of-tally.ensures refl has) off)
 
-module _ (c : After-located_applies) where
-  applied : c.located_applies.result ≡ applies c.args.mask 7 (take c.args.n c.args.samples.now)
-  applied =
-      applied-is c.tally_of-t.ensures (length-take-le c.args.n c.args.samples.now c.requires.frame_in.0.long) c.row_of-row.ensures.0
-      c.located_applies.ensures
-
-pub returns-then-not-located_applies : goal.returns-then-not-located_applies
-returns-then-not-located_applies c =
-    let has = row_has c.tally_of-t.ensures (size (goal.at.returns-then-not-located_applies c).Start) c.row_of-row.ensures.0 in
-    let off = sym (applied (goal.at.returns-then-not-located_applies c).After-located_applies) ∙ c.if-not-located_applies.true in (
-      off,
-      rare c.args.mask (take c.args.n c.args.samples.now) (size (goal.at.returns-then-not-located_applies c).Start)
-          c.requires.frame_in.1.1 (sym has ∙ lt-ltb _ 4 c.if-row-ge4.false) off,
-    )
-
-on : (c : Else-not-located_applies) → applies c.args.mask 7 (take c.args.n c.args.samples.now) ≡ true
-on c =
-    sym (applied-is c.tally_of-t.ensures (length-take-le c.args.n c.args.samples.now c.requires.frame_in.0.long)
-    c.row_of-row.ensures.0 c.located_applies.ensures) ∙ c.if-not-located_applies.false
-
-pub located_of-located-requires : goal.located_of-located-requires
-located_of-located-requires c =
+pub located_of-requires : goal.located_of-requires
+located_of-requires c =
+    let has = sym c.in-Some.is ∙ c.row_of.ensures in
     record {
       frame_in = (c.requires.frame_in.0, c.requires.frame_in.1.0);
-      tallied = (c.tally_of-t.ensures, on (goal.at.located_of-located-requires c).Else-not-located_applies);
-      row_value = c.row_of-row.ensures.0;
-      a_len = c.requires.a_len;
+      tallied = (
+        c.tally_of-tally.ensures,
+        sym (applied-is c.tally_of-tally.ensures refl has c.zero_leads.ensures c.requires.frame_in.1.1) ∙ c.if-not-zero_leads.false,
+      );
+      row_value = has;
     }
 
-pub returns : goal.returns
-returns c = (on (goal.at.returns c).Else-not-located_applies, c.located_of-located.ensures)
+pub returns-else-not-zero_leads : goal.returns-else-not-zero_leads
+returns-else-not-zero_leads c =
+    let has = sym c.in-Some.is ∙ c.row_of.ensures in (
+      sym (applied-is c.tally_of-tally.ensures refl has c.zero_leads.ensures c.requires.frame_in.1.1) ∙ c.if-not-zero_leads.false,
+      c.located_of.ensures,
+    )

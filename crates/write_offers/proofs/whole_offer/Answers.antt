@@ -1,44 +1,26 @@
-use mathlib.Core.Path.{◌≡◌, sym, ap, ◌∙◌}
-use lib.Seq.{get_or-take, length-take-le}
-use Rattle.write_offers.specs.Offers.{whole_bits}
-use Rattle.write_offers.proofs.Offering.{offer-as, uncompressed-offer, plus-offer, minus-offer, constant-offer}
-use Prim.Native.Nat.{ℕ}
-use lib.ListN.{length, take}
+use mathlib.Core.Path.{refl}
 use native.Mathlib.Omega.{arith}
-use Rattle.write_offers.proofs.whole_offer.Goals.{Start, After-whole_bits-bits}
+use mathlib.Core.Path.{◌≡◌}
+use Rattle.write_offers.proofs.Offering.{uncompressed-offer, plus-offer, minus-offer, constant-offer}
 use Rattle.write_offers.proofs.whole_offer.Goals as goal
 
-size : (c : Start) → length (take c.args.n c.args.samples.now) ≡ c.args.n
-size c = length-take-le c.args.n c.args.samples.now c.requires.frame_in.0.long
+pub returns-in-1 : goal.returns-in-1
+returns-in-1 c =
+    let bits = rw c.in-1.is at c.whole_bits-bits.ensures in
+    rw c.in-1.is (uncompressed-offer c.args.mask c.args.frame.now refl c.requires.frame_in.0.few bits refl)
 
--- the bits of the tool that it is
-bits_are : (c : After-whole_bits-bits) (t : ℕ) → c.args.tool ≡ t
-    → c.whole_bits-bits.result ≡ whole_bits t c.args.n
-bits_are c t e = c.whole_bits-bits.ensures ∙ ap (λ (k : ℕ). whole_bits k c.args.n) e
+pub returns-in-2 : goal.returns-in-2
+returns-in-2 c =
+    let bits = rw c.in-2.is at c.whole_bits-bits.ensures in
+    rw c.in-2.is (plus-offer c.args.mask c.args.frame.now c.plus_zero.ensures bits c.one_value_offer.ensures)
 
-pub returns-then-tool-eq1 : goal.returns-then-tool-eq1
-returns-then-tool-eq1 c =
-    let t = c.if-tool-eq1.true in
-    offer-as t (uncompressed-offer c.args.mask (take c.args.n c.args.samples.now) (size (goal.at.returns-then-tool-eq1 c).Start)
-    c.requires.frame_in.0.few (bits_are (goal.at.returns-then-tool-eq1 c).After-whole_bits-bits 1 t) c.offer_if.ensures)
+pub returns-in-3 : goal.returns-in-3
+returns-in-3 c =
+    let bits = rw c.in-3.is at c.whole_bits-bits.ensures in
+    rw c.in-3.is (minus-offer c.args.mask c.args.frame.now c.minus_zero.ensures bits c.one_value_offer-in-3.ensures)
 
-pub returns-then-tool-eq2 : goal.returns-then-tool-eq2
-returns-then-tool-eq2 c =
-    let t = c.if-tool-eq2.true in
-    offer-as t
-    (plus-offer c.args.mask (take c.args.n c.args.samples.now) c.plus_zero.ensures
-    (bits_are (goal.at.returns-then-tool-eq2 c).After-whole_bits-bits 2 t) c.one_value_offer.ensures)
-
-pub returns-then-tool-eq3 : goal.returns-then-tool-eq3
-returns-then-tool-eq3 c =
-    let t = c.if-tool-eq3.true in
-    offer-as t
-    (minus-offer c.args.mask (take c.args.n c.args.samples.now) c.minus_zero.ensures (bits_are (goal.at.returns-then-tool-eq3 c).After-whole_bits-bits 3 t)
-    c.one_value_offer-then-tool-eq3.ensures)
-
-pub returns : goal.returns
-returns c =
-    let first = sym (get_or-take c.args.n c.args.samples.now 0 0 c.requires.frame_in.0.some) in
-    let t : c.args.tool ≡ 4 = omega (arith, c.requires.le_tool, c.if-tool-eq1.false, c.if-tool-eq2.false, c.if-tool-eq3.false) in
-    offer-as t (constant-offer c.args.mask (take c.args.n c.args.samples.now) first
-    (bits_are (goal.at.returns c).After-whole_bits-bits 4 t) c.one_value_offer-2.ensures)
+pub returns-in_default : goal.returns-in_default
+returns-in_default c =
+    let t : c.args.tool ≡ 4 = omega arith in
+    let bits = rw t at c.whole_bits-bits.ensures in
+    rw t (constant-offer c.args.mask c.args.frame.now refl bits c.one_value_offer-in_default.ensures)

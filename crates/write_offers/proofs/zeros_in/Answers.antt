@@ -1,10 +1,9 @@
-use lib.ListN.{take}
 use Rattle.write_located.proofs.Near.{counted}
 use Rattle.write_offers.proofs.zeros_in.Goals as goal
 
 pub returns : goal.returns
 returns c =
-    let f = take c.args.n c.args.samples.now in
+    let f = c.args.frame.now in
     let plus = c.count_of.ensures in
     let minus = c.count_of-2.ensures in
     record {

@@ -1,9 +1,5 @@
-use Prim.Native.Nat.{◌-◌}
 use Rattle.write_scan.proofs.Extents.{ExtentTurn}
 use Rattle.write_scan.proofs.extent_of.Given as goal
 
-abbrev pub invariant-loop-i : goal.invariant-loop-i
-invariant-loop-i l = ExtentTurn l.samples l.n l.mask l.least l.greatest l.i
-
-abbrev pub decreases-loop-i : goal.decreases-loop-i
-decreases-loop-i l = l.n - l.i
+abbrev pub invariant-loop-x : goal.invariant-loop-x
+invariant-loop-x l = ExtentTurn l.frame l.mask l.least l.greatest l.x-index

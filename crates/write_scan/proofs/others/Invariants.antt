@@ -1,11 +1,7 @@
-use Prim.Native.Nat.{◌*◌, ◌-◌, ◌≤◌}
-use lib.ListN.{take}
-use Rattle.write_scan.specs.Rows.{RowIs}
+use Rattle.std.proofs.Common.{◌*◌, take}
 use Rattle.write_scan.specs.Looks.{marks_of}
+use Rattle.write_scan.proofs.Rows.{Laid}
 use Rattle.write_scan.proofs.others.Given as goal
 
 abbrev pub invariant-loop-i : goal.invariant-loop-i
-invariant-loop-i l = (l.i ≤ l.k) × RowIs (marks_of l.x 0 1 (take (40 * l.i) l.samples)) l.i l.row
-
-abbrev pub decreases-loop-i : goal.decreases-loop-i
-decreases-loop-i l = l.k - l.i
+invariant-loop-i l = Laid (marks_of l.x 0 1 (take (40 * l.i) l.frame)) l.i l.words

@@ -1,9 +1,5 @@
-use Prim.Native.Nat.{◌-◌}
 use Rattle.write_scan.proofs.Spreading.{SpreadTurn}
 use Rattle.write_scan.proofs.spread_of.Given as goal
 
-abbrev pub invariant-loop-i : goal.invariant-loop-i
-invariant-loop-i l = SpreadTurn l.samples l.n l.mask l.any l.all l.i
-
-abbrev pub decreases-loop-i : goal.decreases-loop-i
-decreases-loop-i l = l.n - l.i
+abbrev pub invariant-loop-x : goal.invariant-loop-x
+invariant-loop-x l = SpreadTurn l.frame l.mask l.any l.all l.x-index

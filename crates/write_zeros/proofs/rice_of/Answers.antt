@@ -1,15 +1,12 @@
 -- The runs of the common zero's flags, and what the parameter costs (TwoZeros, Turning).
-use Rattle.write_zeros.proofs.TwoZeros.{rice-for}
-use Rattle.write_zeros.proofs.Turning.{turned-runs}
-use mathlib.Core.Bool.{cond}
-use lib.Dec.{ltb}
+use Rattle.std.proofs.Common.{◌∙◌}
+use Rattle.write_scan.proofs.Rows.{test_byte}
+use Rattle.write_zeros.proofs.TwoZeros.{rice-is}
+use Rattle.write_zeros.proofs.Turning.{common-turned}
 use Rattle.write_zeros.proofs.rice_of.Goals as goal
 
 pub returns : goal.returns
-returns c = λ s z. rice-for c.args.mask s z.size z.plus z.minus c.mark_of-mark.ensures.0
-    c.common_zero-zero.ensures
-    (turned-runs c.args.mask (cond (ltb c.args.plus c.args.minus) 1 0) s z.zeros
-    c.common_zero-zero.ensures c.minus_zero.ensures z.row
-    c.turned_row-flags.ensures c.runs_in-count.ensures)
-    c.lengths_of-extra.ensures c.most_s.ensures.0
-    c.most_s.ensures.1.1 c.least_s-least.ensures c.start_bits.ensures
+returns c =
+    λ mask s z. rice-is mask s z.size z.plus z.minus (c.from-mark.ensures ∙ test_byte _)
+    (rw (z.flags.says, common-turned mask c.args.plus c.args.minus s z.zeros) at c.turned_runs-count.ensures)
+    c.lengths_of.ensures c.most_s.ensures.0 c.most_s.ensures.1.1 c.least_s-least.ensures c.start_bits.ensures

@@ -1,31 +1,35 @@
 -- By the tool (Plainly).
-use Prim.Native.Nat.{ℕ, ◌<◌}
 use native.Mathlib.Omega.{arith}
-use lib.ListN.{get_or}
 use Rattle.read_bodies.proofs.Plainly.{plus-is, minus_is, constant-is, constant-short, octets-are, octets-short}
-use Rattle.read_bodies.proofs.plain.plain_of.Goals.{After-shared_slice_known-1}
+use Rattle.read_bodies.proofs.plain.plain_of.Goals.{then-tool-eq4, else-tool-eq4}
 use Rattle.read_bodies.proofs.plain.plain_of.Goals as goal
 
--- octets are octets
-sizes : (c : After-shared_slice_known-1) → (i : ℕ) → get_or c.args.octets.now i 0 < 256
-sizes c i = (c.shared_slice_known-1.given i).fits
-
 pub returns-then-tool-eq2 : goal.returns-then-tool-eq2
-returns-then-tool-eq2 c = plus-is _ _ _ _ (omega arith) c.plus_zero.ensures
+returns-then-tool-eq2 c = plus-is _ _ _ _ c.if-tool-eq2.true c.plus_zero.ensures
 
 pub returns-then-tool-eq3 : goal.returns-then-tool-eq3
-returns-then-tool-eq3 c = minus_is _ _ _ _ (omega arith) c.minus_zero.ensures
+returns-then-tool-eq3 c = minus_is _ _ _ _ c.if-tool-eq3.true c.minus_zero.ensures
 
-pub returns-then-octets-lt2 : goal.returns-then-octets-lt2
-returns-then-octets-lt2 c = rw c.missing.ensures (constant-short _ _ _ _ (omega arith) (omega arith))
+pub returns-then-octets-behind : goal.returns-then-octets-behind
+returns-then-octets-behind c =
+    rw c.missing.ensures
+    (elim c.if-tool-eq4.branch [
+      | then-tool-eq4 w ↦ constant-short _ _ _ _ w.if-tool-eq4.true (omega (arith, w.behind-is))
+      | else-tool-eq4 w ↦
+          octets-short _ _ _ _ (λ i. (c.type_inv.octets i).fits) (omega (arith, w.if-tool-eq4.false)) (omega arith) (omega (arith, w.behind-is))
+    ])
 
-pub returns-then-tool-eq4 : goal.returns-then-tool-eq4
-returns-then-tool-eq4 c = constant-is _ _ _ _ (sizes (goal.at.returns-then-tool-eq4 c).After-shared_slice_known-1) (omega arith) (omega arith)
+pub returns-then-tool-eq4-2 : goal.returns-then-tool-eq4-2
+returns-then-tool-eq4-2 c =
+    elim c.if-tool-eq4.branch [
+      | then-tool-eq4 w ↦ constant-is _ _ _ _ (λ i. (c.type_inv.octets i).fits) c.if-tool-eq4-2.true (omega arith) (omega (arith, w.behind-is))
+      | else-tool-eq4 w ↦ absurd (w.if-tool-eq4.false c.if-tool-eq4-2.true)
+    ]
 
-pub returns-then-octets-n : goal.returns-then-octets-n
-returns-then-octets-n c =
-    rw c.missing-then-octets-n.ensures (octets-short _ _ _ _ (sizes (goal.at.returns-then-octets-n c).After-shared_slice_known-1)
-    (omega arith) (omega arith) (omega arith))
-
-pub returns : goal.returns
-returns c = octets-are _ _ _ _ (sizes (goal.at.returns c).After-shared_slice_known-1) (omega arith) (omega arith)
+pub returns-else-tool-eq4-2 : goal.returns-else-tool-eq4-2
+returns-else-tool-eq4-2 c =
+    elim c.if-tool-eq4.branch [
+      | then-tool-eq4 w ↦ absurd (c.if-tool-eq4-2.false w.if-tool-eq4.true)
+      | else-tool-eq4 w ↦
+          octets-are _ _ _ _ (λ i. (c.type_inv.octets i).fits) (omega (arith, w.if-tool-eq4.false)) (omega (arith, w.behind-is))
+    ]

@@ -53,20 +53,20 @@ returns-then-n-eq0 c =
     (omega arith)
     (sym n.ensures ∙ c.if-n-eq0.true))) c.put_lost.ensures
 
-pub slice_bounds-put_form-end-2 : goal.slice_bounds-put_form-end-2
-slice_bounds-put_form-end-2 c =
+pub slice_bounds-put_form-end-else-n-eq0 : goal.slice_bounds-put_form-end-else-n-eq0
+slice_bounds-put_form-end-else-n-eq0 c =
     let n = c.length_in-n in
     loss-end (mask_of c.args.by.law) c.args.by.set c.args.c n.result n.ensures c.requires.item_in.0 c.requires.lawful.1
 
-pub put_form-requires-2 : goal.put_form-requires-2
-put_form-requires-2 c =
+pub put_form-requires-else-n-eq0 : goal.put_form-requires-else-n-eq0
+put_form-requires-else-n-eq0 c =
     let n = c.length_in-n in let f = loss-for (mask_of c.args.by.law) c.args.by.set c.args.c n.result n.ensures
     c.requires.item_in.0 c.requires.lawful.1 (omega arith) c.if-n-eq0.false in record
     { frame_value = (f.six, c.requires.lawful.0); frame_in_bounds = omega (arith, c.requires.samples_in_bounds, ap length f.octets) }
 
-pub returns : goal.returns
-returns c =
+pub returns-else-n-eq0 : goal.returns-else-n-eq0
+returns-else-n-eq0 c =
     let n = c.length_in-n in
     let f = loss-for (mask_of c.args.by.law) c.args.by.set c.args.c n.result n.ensures
     c.requires.item_in.0 c.requires.lawful.1 (omega arith) c.if-n-eq0.false in
-    puts-as (sym f.octets) c.put_form-2.ensures
+    puts-as (sym f.octets) c.put_form-else-n-eq0.ensures

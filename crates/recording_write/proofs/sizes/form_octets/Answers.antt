@@ -13,5 +13,5 @@ returns c =
     let six = c.requires.0 in
     let b = below_all f (λ i. (c.shared_slice_known-1.given i).fits) in
     let few = form-few by.law by.set f c.requires.1.1 b six in
-    let e = form-measured f by.law by.set c.requires.1.0 c.requires.1.1 six (replicate 321 0) few c.write_samples-w.ensures in
+    let e = form-measured f by.law by.set c.requires.1.0 c.requires.1.1 six (replicate 321 0) few c.write_samples.ensures in
     (e, omega (arith, e, few))

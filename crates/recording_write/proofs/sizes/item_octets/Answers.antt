@@ -44,21 +44,21 @@ returns-then-n-eq0 c =
       omega arith,
     )
 
-pub slice_bounds-form_octets-end-2 : goal.slice_bounds-form_octets-end-2
-slice_bounds-form_octets-end-2 c =
+pub slice_bounds-form_octets-end-else-n-eq0 : goal.slice_bounds-form_octets-end-else-n-eq0
+slice_bounds-form_octets-end-else-n-eq0 c =
     let n = c.length_in-n in
     loss-end (mask_of c.args.by.law) c.args.by.set c.args.c n.result n.ensures c.requires.item_in.0 c.requires.lawful.1
 
-pub form_octets-requires-2 : goal.form_octets-requires-2
-form_octets-requires-2 c =
+pub form_octets-requires-else-n-eq0 : goal.form_octets-requires-else-n-eq0
+form_octets-requires-else-n-eq0 c =
     let n = c.length_in-n in
     let f = loss-for (mask_of c.args.by.law) c.args.by.set c.args.c n.result n.ensures
     c.requires.item_in.0 c.requires.lawful.1 (omega arith) c.if-n-eq0.false in
     (f.six, c.requires.lawful.0)
 
-pub returns : goal.returns
-returns c =
+pub returns-else-n-eq0 : goal.returns-else-n-eq0
+returns-else-n-eq0 c =
     let n = c.length_in-n in
     let f = loss-for (mask_of c.args.by.law) c.args.by.set c.args.c n.result n.ensures
     c.requires.item_in.0 c.requires.lawful.1 (omega arith) c.if-n-eq0.false in
-    (c.form_octets-2.ensures.0 ∙ ap length (sym f.octets), omega (arith, c.form_octets-2.ensures.1))
+    (c.form_octets-else-n-eq0.ensures.0 ∙ ap length (sym f.octets), omega (arith, c.form_octets-else-n-eq0.ensures.1))

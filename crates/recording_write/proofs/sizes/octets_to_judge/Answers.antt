@@ -10,5 +10,5 @@ returns-then-most-room c =
     most-settles a.by.law a.by.set a.cells.now a.samples.now c.requires.lawful.0.1 b c.requires.samples_value
     c.most_octets-most.ensures (omega arith) (omega arith)
 
-pub returns : goal.returns
-returns c = measured-settles c.args.room c.all_octets.ensures
+pub returns-else-most-le-LONGEST : goal.returns-else-most-le-LONGEST
+returns-else-most-le-LONGEST c = measured-settles c.args.room c.all_octets.ensures

@@ -4,12 +4,11 @@ use lib.ListN.{length-set}
 use native.Mathlib.Omega.{arith}
 use Rattle.store_greeting.proofs.marks.keep.Goals as goal
 
-pub returns-then-marks-m : goal.returns-then-marks-m
-returns-then-marks-m c = record { says = λ h. absurd (omega arith) }
+pub bounds-marks-m-then-m-marks : goal.bounds-marks-m-then-m-marks
+bounds-marks-m-then-m-marks c = let a = c.args in omega (arith, length-set a.marks.now (2 * a.m) a.at)
 
-pub bounds-marks-m-2 : goal.bounds-marks-m-2
-bounds-marks-m-2 c =
-    let a = c.args in omega (arith, length-set a.marks.now (2 * a.m) a.at)
+pub returns-then-m-marks : goal.returns-then-m-marks
+returns-then-m-marks c = record { says = λ _. refl }
 
-pub returns : goal.returns
-returns c = record { says = λ _. refl }
+pub returns-else-m-marks : goal.returns-else-m-marks
+returns-else-m-marks c = record { says = λ h. absurd (omega arith) }

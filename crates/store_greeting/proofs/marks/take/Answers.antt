@@ -19,9 +19,9 @@ keep-requires c =
     let heard = taking-heard _ _ t (omega arith) in
     (omega (arith, few), omega arith, omega (arith, heard))
 
-pub returns-in-Refused : goal.returns-in-Refused
-returns-in-Refused c =
-    taken-wrong _ _ c.loop-at.invariant (omega arith) (omega arith) (omega arith) c.walk_on-walked.ensures c.in-Refused.is _
+pub returns-in-Err : goal.returns-in-Err
+returns-in-Err c =
+    taken-wrong _ _ c.loop-at.invariant (omega arith) (omega arith) (omega arith) c.walk_on-walked.ensures c.in-Err.is _
 
 pub overflow_add-samples : goal.overflow_add-samples
 overflow_add-samples c =
@@ -36,11 +36,11 @@ overflow_add-m c = omega (
 
 pub loop-at-smaller : goal.loop-at-smaller
 loop-at-smaller c =
-    omega (arith, taking-on _ _ c.loop-at.invariant c.walk_on-walked.ensures c.in-Done.is (omega arith))
+    omega (arith, taking-on _ _ c.loop-at.invariant c.walk_on-walked.ensures c.in-Ok.is (omega arith))
 
 pub loop-at-preserved : goal.loop-at-preserved
 loop-at-preserved c =
-    taking-turn _ _ c.loop-at.invariant (omega arith) c.walk_on-walked.ensures c.in-Done.is c.keep.ensures
+    taking-turn _ _ c.loop-at.invariant (omega arith) c.walk_on-walked.ensures c.in-Ok.is c.keep.ensures
     c.keep.auto.marks
 
 pub returns : goal.returns

@@ -19,4 +19,4 @@ pub returns : goal.returns
 returns c =
     let s = c.args in
     jump-on s.block.now s.table.now s.number s.sample c.size_of-size.ensures c.sane.ensures
-    (c.if-not-sane.false) (rw c.wide-x.ensures at c.among.ensures)
+    (c.if-not-sane.false) c.among.ensures

@@ -1,21 +1,21 @@
 use Prim.Native.Nat.{ℕ, ◌≤◌, ◌<◌}
-use mathlib.Core.Path.{◌≡◌, sym, ap, ◌∙◌}
+use mathlib.Core.Path.{◌≡◌, sym, ap, ◌∙◌, refl}
 use mathlib.Core.Bool.{true, false}
 use mathlib.Core.List.{List}
 use native.Mathlib.Omega.{arith}
-use lib.ListN.{length}
+use lib.ListN.{length, get_or}
 use Rattle.store_rows.specs.declared.rows.Row.{Row}
 use Rattle.store_rows.specs.Limits.{is_number}
 use Rattle.store_rows.specs.Rows.{held}
 use Rattle.store_rows.specs.Finding.{absent}
 use Rattle.store_rows.specs.Cells.{rows_at, rows_of}
 use Rattle.store_rows.specs.Changed.{nth}
-use Rattle.store_moves.specs.declared.calls.Due.TheVariants.{Goes}
+use Rattle.std.proofs.Common.{Some}
 use Rattle.store_moves.specs.Next.{next_of}
 use Rattle.store_rows.proofs.Judged.{row_next}
-use Rattle.store_moves.proofs.Calling.{find-held, find_none, next-is, within-goes, nth-row, start-told, denied, is-not-next, made}
+use Rattle.store_moves.proofs.Calling.{find-is, next-is, within-goes, nth-row, start-told, denied, is-not-next, made}
 use Rattle.store_moves.proofs.Calling.{moved-number, moved-absent, moved-closed, moved_other, moved-elsewhere, moved-there}
-use Rattle.store_moves.proofs.calls.moved_in.Goals.{Else-not-is_number, After-next_move, In-Goes, After-row_at-r}
+use Rattle.store_moves.proofs.calls.moved_in.Goals.{Else-not-is_number, After-next_move, In-Some, After-row_at-r}
 use Rattle.store_moves.proofs.calls.moved_in.Goals as goal
 
 pub returns-then-not-is_number : goal.returns-then-not-is_number
@@ -34,44 +34,44 @@ bounds-table-0 c = omega (arith, c.requires.0.order.cells)
 pub find-requires : goal.find-requires
 find-requires c =
     let o = c.requires.0.order in
-    (omega arith, omega (arith, o.few, c.wide-n.ensures), o.cells)
+    (o.few, o.cells)
 
-pub returns-then-n-find : goal.returns-then-n-find
-returns-then-n-find c =
+pub returns-then-is_none : goal.returns-then-is_none
+returns-then-is_none c =
     let a = c.args in
-    denied a.table.now (moved-absent (rows_of a.table.now) a.x a.to (numbered (goal.at.returns-then-n-find c).Else-not-is_number)
-    (find_none a.table.now a.x c.wide-n.ensures c.find.ensures.0 (omega arith)))
+    denied a.table.now (moved-absent (rows_of a.table.now) a.x a.to (numbered (goal.at.returns-then-is_none c).Else-not-is_number)
+    (find-is a.table.now a.x c.find.ensures c.is_none.ensures c.if-is_none.true))
 
 pub next_move-requires : goal.next_move-requires
 next_move-requires c =
     let o = c.requires.0.order in
-    (omega (arith, o.few, c.wide-n.ensures), o.cells)
+    (o.few, o.cells)
 
 -- the next move was looked for
 module _ (c : After-next_move) where
   abbrev table : List ℕ
   table = c.args.table.now
 
-pub returns-in-Closed : goal.returns-in-Closed
-returns-in-Closed c =
+pub returns-in-None : goal.returns-in-None
+returns-in-None c =
     let a = c.args in
-    is-not-next a.table.now (moved-closed (rows_of a.table.now) a.x a.to (numbered (goal.at.returns-in-Closed c).Else-not-is_number)
-    (find-held a.table.now a.x c.wide-n.ensures c.find.ensures.0 (omega arith))
-    (next-is a.table.now c.wide-n.ensures c.in-Closed.is c.next_move.ensures.0))
+    is-not-next a.table.now (moved-closed (rows_of a.table.now) a.x a.to (numbered (goal.at.returns-in-None c).Else-not-is_number)
+    (find-is a.table.now a.x c.find.ensures c.is_none.ensures c.if-is_none.false)
+    (next-is a.table.now refl c.in-None.is c.next_move.ensures.0))
 
 -- it is one of the greetings
-module _ (c : In-Goes) where
+module _ (c : In-Some) where
   abbrev place : ℕ
-  place = c.in-Goes.i
+  place = c.in-Some.i
 
   abbrev count : ℕ
-  count = c.wide-n.result
+  count = (get_or c.args.table.now 0 0)
 
-  within : (place < count) × (c.in-Goes.at ≡ held (rows_at (c.args.table.now) place 1))
-  within = within-goes (c.args.table.now) count c.in-Goes.is c.next_move.ensures.1
+  within : (place < count) × (c.in-Some.at ≡ held (rows_at (c.args.table.now) place 1))
+  within = within-goes (c.args.table.now) count c.in-Some.is c.next_move.ensures.1
 
   few : count ≤ 32
-  few = omega (arith, c.wide-n.ensures, c.requires.0.order.few)
+  few = c.requires.0.order.few
 
   below : place < 32
   below = omega (arith, within.0, few)
@@ -94,35 +94,34 @@ module _ (c : After-row_at-r) where
   numbered' = sym c.is_number.ensures ∙ c.if-not-is_number.false
 
   abbrev place' : ℕ
-  place' = c.in-Goes.i
+  place' = c.in-Some.i
 
   abbrev count' : ℕ
-  count' = c.wide-n.result
+  count' = (get_or c.args.table.now 0 0)
 
-  within' : (place' < count') × (c.in-Goes.at ≡ held (rows_at (c.args.table.now) place' 1))
-  within' = within-goes (c.args.table.now) count' c.in-Goes.is c.next_move.ensures.1
+  within' : (place' < count') × (c.in-Some.at ≡ held (rows_at (c.args.table.now) place' 1))
+  within' = within-goes (c.args.table.now) count' c.in-Some.is c.next_move.ensures.1
 
   few' : count' ≤ 32
-  few' = omega (arith, c.wide-n.ensures, c.requires.0.order.few)
+  few' = c.requires.0.order.few
 
   cells' : 97 ≤ length (c.args.table.now)
   cells' = c.requires.0.order.cells
 
-  row : nth (c.in-Goes.i) (rows_of (c.args.table.now)) ≡ c.row_at-r.result
+  row : nth (c.in-Some.i) (rows_of (c.args.table.now)) ≡ c.row_at-r.result
   row =
-      nth-row (c.args.table.now) (c.wide-n.result) (c.in-Goes.i) c.wide-n.ensures
+      nth-row (c.args.table.now) ((get_or c.args.table.now 0 0)) (c.in-Some.i) refl
       (omega (arith, few', cells')) within'.0 ∙ sym c.row_at-r.ensures.0
 
-  named : (nth (c.in-Goes.i) (rows_of (c.args.table.now))).number ≡ c.row_at-r.result.number
+  named : (nth (c.in-Some.i) (rows_of (c.args.table.now))).number ≡ c.row_at-r.result.number
   named = ap (λ (y : Row). y.number) row
 
   has : absent c.args.x (rows_of (c.args.table.now)) ≡ false
   has =
-      find-held (c.args.table.now) c.args.x c.wide-n.ensures c.find.ensures.0
-      (omega (arith, c.if-n-find.false))
+      find-is c.args.table.now c.args.x c.find.ensures c.is_none.ensures c.if-is_none.false
 
-  next : next_of (rows_of (c.args.table.now)) ≡ Goes (c.in-Goes.i) c.in-Goes.at
-  next = next-is (c.args.table.now) c.wide-n.ensures c.in-Goes.is c.next_move.ensures.0
+  next : next_of (rows_of (c.args.table.now)) ≡ Some (c.in-Some.i, c.in-Some.at)
+  next = next-is (c.args.table.now) refl c.in-Some.is c.next_move.ensures.0
 
   is : is_number c.args.x ≡ true
   is = numbered'
@@ -143,18 +142,18 @@ returns-then-at-to c =
 
 pub overflow_cast-table : goal.overflow_cast-table
 overflow_cast-table c =
-    let n = row_next (c.wide-n.result) (c.in-Goes.i) c.requires.0.order c.wide-n.ensures c.row_at-r.ensures.0
-    (within (goal.at.overflow_cast-table c).In-Goes).0 in
-    omega (arith, n.above, n.inside, (within (goal.at.overflow_cast-table c).In-Goes).1, c.requires.1)
+    let n = row_next ((get_or c.args.table.now 0 0)) (c.in-Some.i) c.requires.0.order refl c.row_at-r.ensures.0
+    (within (goal.at.overflow_cast-table c).In-Some).0 in
+    omega (arith, n.above, n.inside, (within (goal.at.overflow_cast-table c).In-Some).1, c.requires.1)
 
 pub overflow_add-table : goal.overflow_add-table
-overflow_add-table c = omega (arith, below (goal.at.overflow_add-table c).In-Goes)
+overflow_add-table c = omega (arith, below (goal.at.overflow_add-table c).In-Some)
 
 pub offset_bounds-table-k : goal.offset_bounds-table-k
-offset_bounds-table-k c = omega (arith, below (goal.at.offset_bounds-table-k c).In-Goes)
+offset_bounds-table-k c = omega (arith, below (goal.at.offset_bounds-table-k c).In-Some)
 
 pub bounds-table-k : goal.bounds-table-k
-bounds-table-k c = omega (arith, below (goal.at.bounds-table-k c).In-Goes, cells (goal.at.bounds-table-k c).In-Goes)
+bounds-table-k c = omega (arith, below (goal.at.bounds-table-k c).In-Some, cells (goal.at.bounds-table-k c).In-Some)
 
 pub returns-else-at-to : goal.returns-else-at-to
 returns-else-at-to c =
@@ -162,7 +161,7 @@ returns-else-at-to c =
     made a.table.now (moved-there (rows_of a.table.now) a.x a.to (is (goal.at.returns-else-at-to c).After-row_at-r)
     (has (goal.at.returns-else-at-to c).After-row_at-r) (next (goal.at.returns-else-at-to c).After-row_at-r)
     (named (goal.at.returns-else-at-to c).After-row_at-r ∙ c.if-r-x.false) c.if-at-to.false)
-    (start-told a.table.now (c.wide-n.result) (c.in-Goes.i) c.wide-n.ensures
-    (omega (arith, few (goal.at.returns-else-at-to c).In-Goes, cells (goal.at.returns-else-at-to c).In-Goes))
-    (within (goal.at.returns-else-at-to c).In-Goes).0
-    c.in-Goes.at)
+    (start-told a.table.now ((get_or c.args.table.now 0 0)) (c.in-Some.i) refl
+    (omega (arith, few (goal.at.returns-else-at-to c).In-Some, cells (goal.at.returns-else-at-to c).In-Some))
+    (within (goal.at.returns-else-at-to c).In-Some).0
+    c.in-Some.at)

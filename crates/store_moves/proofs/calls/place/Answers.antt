@@ -12,11 +12,11 @@ pub octets_moved-requires : goal.octets_moved-requires
 octets_moved-requires c =
     (c.requires.0, c.requires.1, c.requires.2)
 
-pub returns-in-At : goal.returns-in-At
-returns-in-At c =
-    tells-gap (rows_of c.args.table.now) (sym c.in-At.is ∙ c.lowest_gap.ensures)
+pub returns-in-Some : goal.returns-in-Some
+returns-in-Some c =
+    tells-gap (rows_of c.args.table.now) (sym c.in-Some.is ∙ c.lowest_gap.ensures)
 
-pub returns-in-Nowhere : goal.returns-in-Nowhere
-returns-in-Nowhere c =
-    tells-behind (rows_of c.args.table.now) (sym c.in-Nowhere.is ∙ c.lowest_gap.ensures) c.requires.4
+pub returns-in-None : goal.returns-in-None
+returns-in-None c =
+    tells-behind (rows_of c.args.table.now) (sym c.in-None.is ∙ c.lowest_gap.ensures) c.requires.4
     c.octets_moved.ensures

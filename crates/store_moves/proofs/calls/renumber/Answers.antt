@@ -20,4 +20,4 @@ returns c =
     let a = c.args in
     same-changes (table_on a.block.now a.table.now c.size_of-size.ensures c.sane.ensures
     (c.if-not-sane.false) (renumber_in (rows_of a.table.now) a.number a.to))
-    (rw c.wide.ensures at c.renumber_in.ensures)
+    (c.renumber_in.ensures)

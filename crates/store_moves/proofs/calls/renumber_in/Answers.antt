@@ -1,22 +1,31 @@
-use Prim.Native.Nat.{ℕ}
-use mathlib.Core.Path.{◌≡◌, sym, ap, ◌∙◌}
+use Prim.Native.Nat.{ℕ, ◌<◌}
+use mathlib.Core.Path.{◌≡◌, refl, sym, ap, ◌∙◌}
 use mathlib.Core.Bool.{true, false}
 use native.Mathlib.Omega.{arith}
+use lib.ListN.{get_or}
 use Rattle.store_rows.specs.Limits.{is_number}
 use Rattle.store_rows.specs.Finding.{absent, find_from}
 use Rattle.store_rows.specs.Cells.{rows_of, laid}
-use Rattle.store_rows.proofs.Left.{left}
+use Rattle.store_rows.proofs.Cells.{length-rows}
+use Rattle.store_rows.proofs.Finding.{place-some, place-none}
 use Rattle.store_moves.specs.Next.{renumbered_at}
-use Rattle.store_moves.proofs.Calling.{find-place, find-held, find_none, number-told, denied, made}
+use Rattle.store_moves.proofs.Calling.{find-held, find-free, number-told, denied, made}
 use Rattle.store_moves.proofs.Calling.{renumber-first, renumber-second, renumber-absent, renumber-taken, renumber-made}
-use Rattle.store_moves.proofs.calls.renumber_in.Goals.{Else-not-is_number-2, After-find}
+use Rattle.store_moves.proofs.calls.renumber_in.Goals.{then-not-is_number-via-then-not-is_number, then-not-is_number-via-else-not-is_number+then-not-is_number-2}
+use Rattle.store_moves.proofs.calls.renumber_in.Goals.{Else-not-is_number-2, In-Some}
 use Rattle.store_moves.proofs.calls.renumber_in.Goals as goal
 
 pub returns-then-not-is_number : goal.returns-then-not-is_number
 returns-then-not-is_number c =
     let a = c.args in
-    denied a.table.now (renumber-first (rows_of a.table.now) a.x a.to
-    (sym c.is_number.ensures ∙ c.if-not-is_number.true))
+    let rows = rows_of a.table.now in
+    elim c.then-not-is_number.branch [
+      | then-not-is_number-via-then-not-is_number w ↦
+          denied a.table.now (renumber-first rows a.x a.to (sym c.is_number.ensures ∙ w.if-not-is_number.true))
+      | then-not-is_number-via-else-not-is_number+then-not-is_number-2 w ↦
+          denied a.table.now (renumber-second rows a.x a.to (sym c.is_number.ensures ∙ w.if-not-is_number.false)
+          (sym w.is_number-else-not-is_number.ensures ∙ w.if-not-is_number-2.true))
+    ]
 
 -- both numbers are
 module _ (c : Else-not-is_number-2) where
@@ -24,70 +33,51 @@ module _ (c : Else-not-is_number-2) where
   numbered = sym c.is_number.ensures ∙ c.if-not-is_number.false
 
   second : is_number c.args.to ≡ true
-  second = rw c.wide-y.ensures at (sym c.is_number-2.ensures ∙ c.if-not-is_number-2.false)
+  second = sym c.is_number-else-not-is_number.ensures ∙ c.if-not-is_number-2.false
 
-pub returns-then-not-is_number-2 : goal.returns-then-not-is_number-2
-returns-then-not-is_number-2 c =
+pub returns-in-None : goal.returns-in-None
+returns-in-None c =
     let a = c.args in
-    denied a.table.now (renumber-second (rows_of a.table.now) a.x a.to
-    (sym c.is_number.ensures ∙ c.if-not-is_number.false)
-    (ap is_number (sym c.wide-y.ensures) ∙ sym c.is_number-2.ensures ∙ c.if-not-is_number-2.true))
+    let k = (goal.at.returns-in-None c).Else-not-is_number-2 in
+    denied a.table.now (renumber-absent (rows_of a.table.now) a.x a.to (numbered k) (second k)
+    (place-none a.x _ (sym c.find.ensures ∙ c.in-None.is)))
 
-pub bounds-table-0 : goal.bounds-table-0
-bounds-table-0 c = omega (arith, c.requires.order.cells)
+-- the greeting was found
+module _ (c : In-Some) where
+  found : (absent c.args.x (rows_of c.args.table.now) ≡ false) × (c.in-Some.i ≡ find_from c.args.x 0 (rows_of c.args.table.now))
+      × (c.in-Some.i < get_or c.args.table.now 0 0)
+  found =
+      let p = place-some c.args.x _ (sym c.find.ensures ∙ c.in-Some.is) in
+      (p.0, p.1, omega (arith, p.2, length-rows c.args.table.now (get_or c.args.table.now 0 0) 1))
 
-pub find-i-requires : goal.find-i-requires
-find-i-requires c =
-    let o = c.requires.order in
-    (omega arith, omega (arith, o.few, c.wide-n.ensures), o.cells)
-
-pub returns-then-n-i : goal.returns-then-n-i
-returns-then-n-i c =
+pub returns-then-is_some : goal.returns-then-is_some
+returns-then-is_some c =
     let a = c.args in
-    denied a.table.now (renumber-absent (rows_of a.table.now) a.x a.to (numbered (goal.at.returns-then-n-i c).Else-not-is_number-2)
-    (second (goal.at.returns-then-n-i c).Else-not-is_number-2)
-    (find_none a.table.now a.x c.wide-n.ensures c.find-i.ensures.0 (omega arith)))
+    let k = (goal.at.returns-then-is_some c).Else-not-is_number-2 in
+    denied a.table.now (renumber-taken (rows_of a.table.now) a.x a.to (numbered k) (second k)
+    (found (goal.at.returns-then-is_some c).In-Some).0
+    (find-held a.table.now a.to c.find-in-Some.ensures c.is_some.ensures c.if-is_some.true))
 
-pub find-requires : goal.find-requires
-find-requires c =
-    let o = c.requires.order in
-    (omega arith, omega (arith, o.few, c.wide-n.ensures), o.cells)
+pub overflow_mul-table : goal.overflow_mul-table
+overflow_mul-table c = let o = c.requires.order in omega (arith, o.few, (found (goal.at.overflow_mul-table c).In-Some).2)
 
--- and the other
-module _ (c : After-find) where
-  has : absent c.args.x (rows_of c.args.table.now) ≡ false
-  has =
-      find-held c.args.table.now c.args.x c.wide-n.ensures c.find-i.ensures.0
-      (omega (arith, c.if-n-i.false))
+pub overflow_add-table : goal.overflow_add-table
+overflow_add-table c = let o = c.requires.order in omega (arith, o.few, (found (goal.at.overflow_add-table c).In-Some).2)
 
-  other : c.find.result ≡ find_from c.args.to 0 (left c.args.table.now c.wide-n.result 0)
-  other =
-      c.find.ensures.0
-      ∙ ap (λ (k : ℕ). find_from k 0 (left c.args.table.now c.wide-n.result 0))
-      c.wide-y.ensures
-
-pub returns-then-find-n : goal.returns-then-find-n
-returns-then-find-n c =
-    let a = c.args in
-    denied a.table.now (renumber-taken (rows_of a.table.now) a.x a.to
-    (numbered (goal.at.returns-then-find-n c).Else-not-is_number-2) (second (goal.at.returns-then-find-n c).Else-not-is_number-2)
-    (has (goal.at.returns-then-find-n c).After-find)
-    (find-held a.table.now a.to c.wide-n.ensures (other (goal.at.returns-then-find-n c).After-find) (omega arith)))
+pub offset_bounds-table-i : goal.offset_bounds-table-i
+offset_bounds-table-i c = let o = c.requires.order in omega (arith, o.few, (found (goal.at.offset_bounds-table-i c).In-Some).2)
 
 pub bounds-table-i : goal.bounds-table-i
-bounds-table-i c =
-    let o = c.requires.order in
-    omega (arith, o.few, o.cells, c.wide-n.ensures, c.if-n-i.false)
+bounds-table-i c = let o = c.requires.order in omega (arith, o.few, o.cells, (found (goal.at.bounds-table-i c).In-Some).2)
 
-pub returns : goal.returns
-returns c =
+pub returns-else-is_some : goal.returns-else-is_some
+returns-else-is_some c =
     let a = c.args in
+    let t = a.table.now in
     let o = c.requires.order in
-    let n = c.wide-n.ensures in
-    made a.table.now (renumber-made (rows_of a.table.now) a.x a.to (numbered (goal.at.returns c).Else-not-is_number-2)
-    (second (goal.at.returns c).Else-not-is_number-2) (has (goal.at.returns c).After-find)
-    (find_none a.table.now a.to n (other (goal.at.returns c).After-find) (omega arith)))
-    (number-told a.table.now c.wide-n.result c.find-i.result n (omega (arith, o.few, o.cells, n))
-    (omega (arith, c.if-n-i.false)) a.to
-    ∙ ap (λ (k : ℕ). laid (renumbered_at k a.to (rows_of a.table.now)) a.table.now)
-    (find-place a.table.now a.x n c.find-i.ensures.0))
+    let k = (goal.at.returns-else-is_some c).Else-not-is_number-2 in
+    let f = found (goal.at.returns-else-is_some c).In-Some in
+    made t (renumber-made (rows_of t) a.x a.to (numbered k) (second k) f.0
+    (find-free t a.to c.find-in-Some.ensures c.is_some.ensures c.if-is_some.false))
+    (number-told t (get_or t 0 0) c.in-Some.i refl (omega (arith, o.few, o.cells)) f.2 a.to
+    ∙ ap (λ (k : ℕ). laid (renumbered_at k a.to (rows_of t)) t) f.1)

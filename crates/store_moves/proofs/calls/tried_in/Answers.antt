@@ -1,4 +1,4 @@
-use mathlib.Core.Path.{◌≡◌, sym, ◌∙◌}
+use mathlib.Core.Path.{◌≡◌, sym, ◌∙◌, refl}
 use mathlib.Core.Bool.{true}
 use native.Mathlib.Omega.{arith}
 use lib.ListN.{get_or}
@@ -6,7 +6,7 @@ use Rattle.store_rows.proofs.Cells.{length-rows}
 use Rattle.store_rows.specs.Limits.{is_number}
 use Rattle.store_rows.specs.Cells.{rows_of}
 use Rattle.store_moves.proofs.Calling.{tried-law, tried-number, tried-taken, tried-bad, tried-full, tried-no-room, tried-fits}
-use Rattle.store_moves.proofs.Calling.{find-held, find_none}
+use Rattle.store_moves.proofs.Calling.{find-held, find-free}
 use Rattle.store_moves.proofs.calls.tried_in.Goals.{Else-not-is_number}
 use Rattle.store_moves.proofs.calls.tried_in.Goals as goal
 
@@ -32,19 +32,19 @@ bounds-table-0 c = let o = c.requires.0.order in omega (arith, o.cells)
 pub find-requires : goal.find-requires
 find-requires c =
     let o = c.requires.0.order in
-    (omega arith, omega (arith, o.few, c.wide-n.ensures), o.cells)
+    (o.few, o.cells)
 
-pub returns-then-find-n : goal.returns-then-find-n
-returns-then-find-n c =
+pub returns-then-is_some : goal.returns-then-is_some
+returns-then-is_some c =
     let a = c.args in
-    tried-taken a.size (rows_of a.table.now) a.law a.x a.octets.now (omega arith) (numbered (goal.at.returns-then-find-n c).Else-not-is_number)
-    (find-held a.table.now a.x c.wide-n.ensures c.find.ensures.0 (omega arith))
+    tried-taken a.size (rows_of a.table.now) a.law a.x a.octets.now (omega arith) (numbered (goal.at.returns-then-is_some c).Else-not-is_number)
+    (find-held a.table.now a.x c.find.ensures c.is_some.ensures c.if-is_some.true)
 
 pub returns-then-is_bad : goal.returns-then-is_bad
 returns-then-is_bad c =
     let a = c.args in
     tried-bad a.size (rows_of a.table.now) a.law a.x a.octets.now (omega arith) (numbered (goal.at.returns-then-is_bad c).Else-not-is_number)
-    (find_none a.table.now a.x c.wide-n.ensures c.find.ensures.0 (omega arith))
+    (find-free a.table.now a.x c.find.ensures c.is_some.ensures c.if-is_some.false)
     (sym c.is_bad.ensures ∙ c.if-is_bad.true)
 
 pub returns-then-n-ge-MOST_GREETINGS : goal.returns-then-n-ge-MOST_GREETINGS
@@ -52,31 +52,31 @@ returns-then-n-ge-MOST_GREETINGS c =
     let a = c.args in
     let l = length-rows a.table.now (get_or a.table.now 0 0) 1 in
     tried-full a.size (rows_of a.table.now) a.law a.x a.octets.now (omega arith) (numbered (goal.at.returns-then-n-ge-MOST_GREETINGS c).Else-not-is_number)
-    (find_none a.table.now a.x c.wide-n.ensures c.find.ensures.0 (omega arith))
-    (sym c.is_bad.ensures ∙ c.if-is_bad.false) (omega (arith, l, c.wide-n.ensures))
+    (find-free a.table.now a.x c.find.ensures c.is_some.ensures c.if-is_some.false)
+    (sym c.is_bad.ensures ∙ c.if-is_bad.false) (omega (arith, l))
 
 pub held-behind-requires : goal.held-behind-requires
 held-behind-requires c =
-    (c.wide-n.ensures, c.requires.0.order, omega (arith, c.requires.1))
+    (refl, c.requires.0.order, omega (arith, c.requires.1))
 
 pub returns-then-size-behind : goal.returns-then-size-behind
 returns-then-size-behind c =
     let a = c.args in
     let l = length-rows a.table.now (get_or a.table.now 0 0) 1 in
     tried-no-room a.size (rows_of a.table.now) a.law a.x a.octets.now (omega arith) (numbered (goal.at.returns-then-size-behind c).Else-not-is_number)
-    (find_none a.table.now a.x c.wide-n.ensures c.find.ensures.0 (omega arith))
-    (sym c.is_bad.ensures ∙ c.if-is_bad.false) (omega (arith, l, c.wide-n.ensures))
+    (find-free a.table.now a.x c.find.ensures c.is_some.ensures c.if-is_some.false)
+    (sym c.is_bad.ensures ∙ c.if-is_bad.false) (omega (arith, l))
     (omega (arith, c.held-behind.ensures))
 
 pub place-requires : goal.place-requires
 place-requires c =
-    (c.wide-n.ensures, c.requires.0.order, c.requires.1, omega (arith, c.held-behind.ensures), c.held-behind.ensures.0)
+    (refl, c.requires.0.order, c.requires.1, omega (arith, c.held-behind.ensures), c.held-behind.ensures.0)
 
 pub returns : goal.returns
 returns c =
     let a = c.args in
     let l = length-rows a.table.now (get_or a.table.now 0 0) 1 in
     tried-fits a.size (rows_of a.table.now) a.law a.x a.octets.now (omega arith) (numbered (goal.at.returns c).Else-not-is_number)
-    (find_none a.table.now a.x c.wide-n.ensures c.find.ensures.0 (omega arith))
-    (sym c.is_bad.ensures ∙ c.if-is_bad.false) (omega (arith, l, c.wide-n.ensures))
+    (find-free a.table.now a.x c.find.ensures c.is_some.ensures c.if-is_some.false)
+    (sym c.is_bad.ensures ∙ c.if-is_bad.false) (omega (arith, l))
     (omega (arith, c.held-behind.ensures)) c.place.ensures

@@ -18,4 +18,4 @@ pub returns : goal.returns
 returns c =
     let a = c.args in
     try-on a.block.now a.table.now c.size_of-size.ensures c.sane.ensures a.law a.number a.octets.now
-    (c.if-not-sane.false) (rw c.wide.ensures at c.tried_in.ensures)
+    (c.if-not-sane.false) (c.tried_in.ensures)

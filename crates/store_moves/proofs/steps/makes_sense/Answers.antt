@@ -1,28 +1,25 @@
+use mathlib.Core.Path.{sym, ◌∙◌}
+use mathlib.Core.Logic.{inl, inr}
 use native.Mathlib.Omega.{arith}
-use Rattle.store_moves.proofs.Worded.{not-down, not-inside, none_left, some_left}
+use borrow.Author.Tests.{leb-false}
+use Rattle.std.proofs.Common.{rules, tests}
+use Rattle.store_moves.specs.Record.{sensible}
+use Rattle.store_moves.proofs.Worded.{not-down, not-inside}
+use Rattle.store_moves.proofs.steps.makes_sense.Goals.{then-m-size, else-m-size}
 use Rattle.store_moves.proofs.steps.makes_sense.Goals as goal
 
-pub returns-then-m : goal.returns-then-m
-returns-then-m c =
-    let a = c.args in
-    not-down a.size a.m (omega arith)
+pub returns-then-m-size-2 : goal.returns-then-m-size-2
+unfolding sensible
+returns-then-m-size-2 c = search (rules, tests)
 
-pub returns-then-size-m : goal.returns-then-size-m
-returns-then-size-m c =
+pub returns-else-m-size-2 : goal.returns-else-m-size-2
+returns-else-m-size-2 c =
     let a = c.args in
-    not-inside a.size a.m (omega arith) (omega arith)
-
-pub returns-then-size-m-2 : goal.returns-then-size-m-2
-returns-then-size-m-2 c =
-    let a = c.args in
-    not-inside a.size a.m (omega arith) (omega arith)
-
-pub returns-then-m-2 : goal.returns-then-m-2
-returns-then-m-2 c =
-    let a = c.args in
-    none_left a.size a.m (omega arith) (omega arith) (omega arith)
-
-pub returns : goal.returns
-returns c =
-    let a = c.args in
-    some_left a.size a.m (omega arith) (omega arith) (omega arith)
+    let no = c.if-m-size-2.false in
+    no ∙ elim c.if-m-size.branch [
+      | then-m-size w ↦ not-inside a.size a.m w.if-m-size.true.0 (omega (arith, w.if-m-size.true, leb-false _ _ (sym w.value-is ∙ no)))
+      | else-m-size w ↦ elim w.if-m-size.either [
+        | inl p ↦ not-inside a.size a.m p.0 (omega (arith, p))
+        | inr q ↦ not-down a.size a.m q
+      ]
+    ]

@@ -1,7 +1,7 @@
 use Prim.Native.Nat.{ℕ, ◌+◌, ◌-◌}
-use mathlib.Core.Path.{◌≡◌, ap, refl}
+use mathlib.Core.Path.{◌≡◌, ap, ◌∙◌}
 use native.Mathlib.Omega.{arith}
-use lib.ListN.{take, drop, replicate}
+use lib.ListN.{take, drop}
 use Rattle.store_rows.proofs.Hopping.{hop-all}
 use Rattle.store_rows.proofs.closing.hop.Goals as goal
 
@@ -9,6 +9,5 @@ pub returns : goal.returns
 returns c =
     let s = c.args in
     let z : s.from + 64 - s.from ≡ 64 = omega arith in
-    let part = ap (λ (y : ℕ). take y (drop s.from s.block.now)) z in
-    hop-all s.block.now (replicate 64 0) s.from s.to 64 (omega arith) refl part
-    c.copy.ensures c.copy-2.ensures
+    let lifted = c.copy_from_slice.ensures.after ∙ ap (λ (y : ℕ). take y (drop s.from s.block.now)) z in
+    hop-all s.block.now (drop s.from s.block.now) s.to 64 (c.copy_from_slice-2.ensures.after ∙ lifted) (omega arith)

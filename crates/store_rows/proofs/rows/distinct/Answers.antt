@@ -1,45 +1,52 @@
-use mathlib.Core.Path.{sym, ap, ◌∙◌}
-use mathlib.Core.List.{List}
-use native.Mathlib.Omega.{arith}
-use Rattle.store_rows.specs.declared.rows.Row.{Row}
+use mathlib.Core.Path.{◌≡◌, refl, sym, ap, ◌∙◌}
+use mathlib.Core.Bool.{true, false, ◌&&◌}
+use lib.Dec.{eqb}
+use Rattle.std.proofs.Common.{rules, tests}
+use Rattle.std.proofs.lemmas.Bool.{not-true, not-false}
+use Rattle.std.proofs.lemmas.Iterator.Consumers.{YieldsList-from_first}
+use Rattle.std.proofs.lemmas.Iterator.Search.{any_from_yields_List}
+use Rattle.store_rows.specs.Limits.{is_number}
+use Rattle.store_rows.specs.Cells.{rows_in}
+use Rattle.store_rows.specs.Finding.{absent}
 use Rattle.store_rows.specs.Sane.{numbered}
-use Rattle.store_rows.proofs.Left.{left-all}
-use Rattle.store_rows.proofs.Judged.{numbered-end, numbered-low, numbered-high, numbered-again, numbered-turn}
+use Rattle.store_rows.proofs.Finding.{any-absent}
+use Rattle.store_rows.proofs.Judged.{numbered-stops, numbered-turn}
+use Rattle.store_rows.proofs.rows.distinct.Goals.{then-not-is_number-via-then-not-is_number, then-not-is_number-via-else-not-is_number+then-any}
 use Rattle.store_rows.proofs.rows.distinct.Goals as goal
 
-pub loop-i-init : goal.loop-i-init
-loop-i-init c = (ap (λ (x : List Row). numbered x) (left-all c.args.table.now c.args.n), omega arith)
+pub loop-r-init : goal.loop-r-init
+loop-r-init c = ap numbered (sym c.greetings-rest.ensures)
 
-pub returns-then-r-lt1 : goal.returns-then-r-lt1
-returns-then-r-lt1 c =
-    let s = c.args in
-    let l = c.loop-i in
-    numbered-low s.table.now s.n l.i c.row_at-r.ensures.0 (omega arith) (omega arith) ∙ sym l.invariant.0
+pub returns-then-not-is_number : goal.returns-then-not-is_number
+returns-then-not-is_number c =
+    let r = c.in-Some.r in
+    let rest = rows_in c.next.new.self.cells.now in
+    let out : is_number r.number && absent r.number rest ≡ false =
+    elim c.then-not-is_number.branch [
+      | then-not-is_number-via-then-not-is_number w ↦
+          let e : is_number r.number ≡ false = sym c.is_number.ensures ∙ w.if-not-is_number.true in rw e
+      | then-not-is_number-via-else-not-is_number+then-any w ↦
+          let e : is_number r.number ≡ true = sym c.is_number.ensures ∙ w.if-not-is_number.false in
+          let again = any_from_yields_List (λ s. eqb s.number r.number) w.any.new.self _ w.any.result w.any.ensures.ran
+          (YieldsList-from_first (λ s. s) (λ s. rows_in s.cells.now) {s = c.next.new.self} rest refl) (λ x b q k. search (rules, tests))
+          in
+          let f : absent r.number rest ≡ false = not-true _ (sym (any-absent r.number rest) ∙ sym again ∙ w.if-any.true) in
+          rw (e, f)
+    ]
+    in
+    sym (c.loop-r.invariant ∙ ap numbered c.in-Some.ensures.steps ∙ numbered-stops r rest out)
 
-pub returns-then-r-gt-MOST_NUMBER : goal.returns-then-r-gt-MOST_NUMBER
-returns-then-r-gt-MOST_NUMBER c =
-    let s = c.args in
-    let l = c.loop-i in
-    numbered-high s.table.now s.n l.i c.row_at-r.ensures.0 (omega arith)
-    (omega arith) (omega arith) ∙ sym l.invariant.0
-
-pub returns-then-find-n : goal.returns-then-find-n
-returns-then-find-n c =
-    let s = c.args in
-    let l = c.loop-i in
-    numbered-again s.table.now s.n l.i c.row_at-r.ensures.0
-    (omega arith) c.find.ensures.0 (omega arith) (omega arith) (omega arith) ∙ sym l.invariant.0
-
-pub loop-i-preserved : goal.loop-i-preserved
-loop-i-preserved c =
-    let s = c.args in
-    let l = c.loop-i in
-    let r = c.row_at-r.ensures.0 in
-    let f = c.find.ensures.0 in
-    (l.invariant.0 ∙ numbered-turn s.table.now s.n l.i r (omega arith) f (omega arith) (omega arith) (omega arith), omega arith)
+pub loop-r-preserved : goal.loop-r-preserved
+loop-r-preserved c =
+    let r = c.in-Some.r in
+    let rest = rows_in c.next.new.self.cells.now in
+    let e : is_number r.number ≡ true = sym c.is_number.ensures ∙ c.if-not-is_number.false in
+    let once = any_from_yields_List (λ s. eqb s.number r.number) c.any.new.self _ c.any.result c.any.ensures.ran
+    (YieldsList-from_first (λ s. s) (λ s. rows_in s.cells.now) {s = c.next.new.self} rest refl) (λ x b q k. search (rules, tests))
+    in
+    let f : absent r.number rest ≡ true = not-false _ (sym (any-absent r.number rest) ∙ sym once ∙ c.if-any.false) in
+    c.loop-r.invariant ∙ ap numbered c.in-Some.ensures.steps ∙ numbered-turn r rest (rw (e, f))
 
 pub returns : goal.returns
-returns c =
-    let s = c.args in
-    let l = c.loop-i in
-    numbered-end s.table.now s.n l.i (omega arith) ∙ sym l.invariant.0
+unfolding numbered
+returns c = sym (c.loop-r.invariant ∙ ap numbered c.in_default.ensures.steps.0)

@@ -1,28 +1,20 @@
-use mathlib.Core.Path.{sym, ◌∙◌}
+use mathlib.Core.Path.{sym, ap, ◌∙◌}
 use native.Mathlib.Omega.{arith}
-use Rattle.store_rows.proofs.Finding.{find-end, find-hit, find-miss}
+use lib.Dec.{eqb}
+use lib.ListN.{length}
+use Rattle.std.proofs.Common.{inl, rules, tests}
+use Rattle.std.proofs.lemmas.Iterator.Consumers.{YieldsList-from_first}
+use Rattle.std.proofs.lemmas.Iterator.Search.{position_from_yields_List}
+use Rattle.store_rows.specs.Cells.{rows_in}
+use Rattle.store_rows.proofs.Cells.{length-rows}
+use Rattle.store_rows.proofs.Finding.{place_is}
 use Rattle.store_rows.proofs.rows.find.Goals as goal
 
-pub returns-then-r-number : goal.returns-then-r-number
-returns-then-r-number c =
-    let s = c.args in
-    let l = c.loop-i in (
-      find-hit s.table.now s.n l.i c.row_at-r.ensures.0 (omega arith) s.number (omega arith)
-          ∙ sym l.invariant.0,
-      omega arith,
-    )
-
-pub loop-i-preserved : goal.loop-i-preserved
-loop-i-preserved c =
-    let s = c.args in
-    let l = c.loop-i in (
-      l.invariant.0 ∙ find-miss s.table.now s.n l.i c.row_at-r.ensures.0 (omega arith) s.number
-          (λ e. omega arith),
-      omega arith,
-    )
+pub position-requires-clause-fits : goal.position-requires-clause-fits
+position-requires-clause-fits c = inl (omega (arith, ap length c.greetings.ensures ∙ length-rows c.args.table.now c.args.n 1))
 
 pub returns : goal.returns
 returns c =
-    let s = c.args in
-    let l = c.loop-i in
-    (find-end s.table.now s.n l.i s.number (omega arith) (omega arith) ∙ sym l.invariant.0, omega arith)
+    position_from_yields_List (λ r. eqb r.number c.args.number) c.position.new.self _ _ c.position.ensures.ran
+    (YieldsList-from_first (λ r. r) (λ s. rows_in s.cells.now) {s = c.greetings.result} _ c.greetings.ensures) (λ x b q k. search (rules, tests))
+    ∙ sym (place_is c.args.number _)

@@ -1,24 +1,33 @@
-use Prim.Native.Nat.{ℕ}
-use mathlib.Core.Path.{refl, ap, ◌∙◌}
+use mathlib.Core.Path.{◌∙◌}
 use native.Mathlib.Omega.{arith}
+use Prim.Native.Nat.{◌≤◌}
+use Rattle.std.proofs.Common.{rules, tests}
+use Rattle.std.proofs.lemmas.Iterator.{YieldsList-from_map}
+use Rattle.std.proofs.lemmas.Iterator.Consumers.{YieldsList-at, YieldsList-from_first, sum_by_from_yields_List, fits_by_from_yields_list}
+use Rattle.store_rows.specs.declared.rows.Row.{Row}
 use Rattle.store_rows.specs.Rows.{held}
-use Rattle.store_rows.specs.Cells.{rows_at}
-use Rattle.store_rows.proofs.Finding.{held-turn}
-use Rattle.store_rows.proofs.Judged.{row_next}
+use Rattle.store_rows.specs.Cells.{rows_in, rows_at}
+use Rattle.store_rows.proofs.Rising.{rising-within}
+use Rattle.store_rows.proofs.Finding.{held-sum}
 use Rattle.store_rows.proofs.rows.held.Goals as goal
 
-pub loop-i-init : goal.loop-i-init
-unfolding rows_at held
-loop-i-init c = (refl, omega arith, omega arith)
-
-pub loop-i-preserved : goal.loop-i-preserved
-loop-i-preserved c =
-    let l = c.loop-i in
-    let h = held-turn c.args.table.now c.args.n l.i c.row_at-r.ensures.0 (omega arith) l.invariant.0 in
-    let x = row_next c.args.n l.i c.requires.1 c.requires.0 c.row_at-r.ensures.0 (omega arith) in
-    (h, omega arith, omega (arith, x.above, x.inside, l.invariant.0))
+pub sum-requires-clause-fits : goal.sum-requires-clause-fits
+sum-requires-clause-fits c =
+    let rows = rows_at c.args.table.now c.args.n 1 in
+    let h : held rows ≤ c.args.size = rw c.requires.0 (rising-within 1 c.args.size _ c.requires.1.rises) in
+    fits_by_from_yields_list (λ (r : Row). r.octets) rows c.map.result _
+    (YieldsList-from_map _ (λ (r : Row). r.octets)
+    (YieldsList-at c.map.ensures.source (YieldsList-from_first (λ r. r) (λ s. rows_in s.cells.now) {s = c.greetings.result} rows c.greetings.ensures))
+    c.map.ensures.closure (λ x r q k. search (rules, tests))) (omega (arith, held-sum rows, h))
 
 pub returns : goal.returns
 returns c =
-    let l = c.loop-i in
-    (l.invariant.0 ∙ ap (λ (x : ℕ). held (rows_at c.args.table.now x 1)) (omega (arith, c.requires.0)), omega arith)
+    let rows = rows_at c.args.table.now c.args.n 1 in
+    let h : held rows ≤ c.args.size = rw c.requires.0 (rising-within 1 c.args.size _ c.requires.1.rises) in
+    let e = sum_by_from_yields_List (λ (r : Row). r.octets) rows c.map.result _ c.sum.ensures.ran
+    (YieldsList-from_map _ (λ (r : Row). r.octets)
+    (YieldsList-at c.map.ensures.source (YieldsList-from_first (λ r. r) (λ s. rows_in s.cells.now) {s = c.greetings.result} rows c.greetings.ensures))
+    c.map.ensures.closure (λ x r q k. search (rules, tests)))
+    ∙ held-sum rows
+    in
+    (rw (← c.requires.0) e, omega (arith, e, h))

@@ -1,51 +1,32 @@
 use mathlib.Core.Path.{sym, ap, ◌∙◌}
-use mathlib.Core.List.{List}
 use native.Mathlib.Omega.{arith}
+use mathlib.Core.List.{List}
 use Rattle.store_rows.specs.declared.rows.Row.{Row}
 use Rattle.store_rows.specs.Sane.{rising}
-use Rattle.store_rows.proofs.Left.{left-all}
-use Rattle.store_rows.proofs.Rising.{rising-end, rising-low, rising-few, rising-out, rising-turn}
+use Rattle.store_rows.proofs.Rising.{Next, rising-turn, rising-stops}
+use Rattle.store_rows.proofs.rows.rises.Goals.{then-r-end-via-then-r-end, then-r-end-via-else-r-end+then-r-least, then-r-end-via-else-r-end+else-r-least+then-size-r, then-r-end-via-else-r-end+else-r-least+else-size-r+then-size-r-2}
 use Rattle.store_rows.proofs.rows.rises.Goals as goal
 
-pub loop-i-init : goal.loop-i-init
-loop-i-init c =
-    let s = c.args in
-    (ap (λ (x : List Row). rising s.least 0 s.size x) (left-all s.table.now s.n), omega arith)
+pub returns-then-r-end : goal.returns-then-r-end
+returns-then-r-end c =
+    let a = c.args in
+    let never : Next a.least c.loop-r.end a.size c.in-Some.r → ⊥ =
+    λ n. elim c.then-r-end.branch [
+      | then-r-end-via-then-r-end w ↦ omega (arith, n.above)
+      | then-r-end-via-else-r-end+then-r-least w ↦ omega (arith, n.some)
+      | then-r-end-via-else-r-end+else-r-least+then-size-r w ↦ omega (arith, n.inside)
+      | then-r-end-via-else-r-end+else-r-least+else-size-r+then-size-r-2 w ↦ omega (arith, n.inside)
+    ]
+    in
+    sym (c.loop-r.invariant ∙ ap (λ (x : List Row). rising a.least c.loop-r.end a.size x) c.in-Some.ensures.steps
+    ∙ rising-stops _ never)
 
-pub returns-then-r-at : goal.returns-then-r-at
-returns-then-r-at c =
-    let s = c.args in
-    let l = c.loop-i in
-    rising-low s.table.now s.n l.i s.least s.size l.at c.row_at-r.ensures.0
-    (omega arith) (omega arith) ∙ sym l.invariant.0
-
-pub returns-then-r-least : goal.returns-then-r-least
-returns-then-r-least c =
-    let s = c.args in
-    let l = c.loop-i in
-    rising-few s.table.now s.n l.i s.least s.size l.at c.row_at-r.ensures.0
-    (omega arith) (omega arith) (omega arith) ∙ sym l.invariant.0
-
-pub returns-then-size-end : goal.returns-then-size-end
-returns-then-size-end c =
-    let s = c.args in
-    let l = c.loop-i in
-    rising-out s.table.now s.n l.i s.least s.size l.at
-    c.row_at-r.ensures.0 (omega arith) (omega arith) (omega arith) (omega arith)
-    ∙ sym l.invariant.0
-
-pub loop-i-preserved : goal.loop-i-preserved
-loop-i-preserved c =
-    let s = c.args in
-    let l = c.loop-i in
-    let r = c.row_at-r.ensures.0 in (
-      l.invariant.0 ∙ rising-turn s.table.now s.n l.i s.least s.size l.at r (omega arith) (omega arith)
-          (omega arith) (omega arith),
-      omega arith,
-    )
+pub loop-r-preserved : goal.loop-r-preserved
+loop-r-preserved c =
+    let a = c.args in
+    c.loop-r.invariant ∙ ap (λ (x : List Row). rising a.least c.loop-r.end a.size x) c.in-Some.ensures.steps
+    ∙ rising-turn _ (record { above = omega arith; some = omega arith; inside = omega arith })
 
 pub returns : goal.returns
-returns c =
-    let s = c.args in
-    let l = c.loop-i in
-    rising-end s.table.now s.n l.i s.least s.size l.at (omega arith) ∙ sym l.invariant.0
+unfolding rising
+returns c = sym (c.loop-r.invariant ∙ ap (λ (x : List Row). rising c.args.least c.loop-r.end c.args.size x) c.in-None.ensures.steps.0)

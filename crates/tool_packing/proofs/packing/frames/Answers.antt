@@ -3,7 +3,7 @@ use mathlib.Core.Path.{◌≡◌, refl, sym, ◌∙◌}
 use native.Mathlib.Omega.{arith}
 use lib.ListN.{length}
 use Rattle.rules.specs.declared.Refusal.{Refusal}
-use Rattle.rules.specs.declared.Ending.TheVariants.{Done, Refused}
+use Rattle.std.proofs.Common.{Ok, Err}
 use Rattle.rules.proofs.Lent.{lent_length}
 use Rattle.tool_packing.specs.Packing.{Packs}
 use Rattle.tool_packing.proofs.Lengths.{Fits, next_fits}
@@ -26,7 +26,7 @@ module _ (c : After-put_frame-r) where
   some' : 1 ≤ c.next_length-len.result
   some' = omega arith
 
-  turned : c.put_frame-r.result.end ≡ Done → Packing c.args.sound.now
+  turned : c.put_frame-r.result.end ≡ Ok tt → Packing c.args.sound.now
       c.args.law
       c.args.set
       c.args.n
@@ -39,7 +39,7 @@ module _ (c : After-put_frame-r) where
       c.requires.1 c.next_length-len.ensures
       some' refl c.put_frame-r.ensures e
 
-  refused : (why : Refusal) → c.put_frame-r.result.end ≡ Refused why
+  refused : (why : Refusal) → c.put_frame-r.result.end ≡ Err why
       → Packs c.args.law
       c.args.set
       (packed c.args.sound.now
@@ -48,7 +48,7 @@ module _ (c : After-put_frame-r) where
       c.args.n
       c.args.out.now)
       (record {
-        end = Refused why;
+        end = Err why;
         frames = c.frames.count;
         samples = c.frames.from;
         octets = c.frames.at;
@@ -81,18 +81,18 @@ frames-smaller c = omega (
 )
 
 pub frames-preserved : goal.frames-preserved
-frames-preserved c = turned (goal.at.frames-preserved c).After-put_frame-r c.in-Done.is
+frames-preserved c = turned (goal.at.frames-preserved c).After-put_frame-r c.in-Ok.is
 
 pub shape_of-out-then-len-eq0 : goal.shape_of-out-then-len-eq0
 shape_of-out-then-len-eq0 c = lent_length c.frames.invariant.kept
 
 pub returns-then-len-eq0 : goal.returns-then-len-eq0
 returns-then-len-eq0 c = pack-done _ _ _ _ _ c.frames.invariant
-    (sym c.next_length-len.ensures ∙ c.if-len-eq0.true) c.last_end-e.ensures
+    (sym c.next_length-len.ensures ∙ c.if-len-eq0.true) c.last_end-end.ensures
 
-pub shape_of-out-in-Refused : goal.shape_of-out-in-Refused
-shape_of-out-in-Refused c = c.put_frame-r.auto.out
+pub shape_of-out-in-Err : goal.shape_of-out-in-Err
+shape_of-out-in-Err c = c.put_frame-r.auto.out
     ∙ lent_length c.frames.invariant.kept
 
-pub returns-in-Refused : goal.returns-in-Refused
-returns-in-Refused c = refused (goal.at.returns-in-Refused c).After-put_frame-r c.in-Refused.why c.in-Refused.is
+pub returns-in-Err : goal.returns-in-Err
+returns-in-Err c = refused (goal.at.returns-in-Err c).After-put_frame-r c.in-Err.why c.in-Err.is

@@ -1,6 +1,11 @@
 use Prim.Native.Nat.{ℕ, ◌≤◌}
 use native.Mathlib.Omega.{arith}
-use mathlib.Core.Path.{sym}
+use mathlib.Core.Path.{◌≡◌, refl, sym, ◌∙◌}
+use mathlib.Core.Bool.{true, false, false≢true}
+use Rattle.std.proofs.Common.{Ok, Err}
+use Rattle.std.specs.Result.{is_err}
+use Rattle.rules.specs.Refusals.{Ending}
+use Rattle.rules.specs.declared.Refusal.{Refusal}
 use mathlib.Core.List.{List}
 use lib.ListN.{length, take}
 use lib.Seq.{length-take-le}
@@ -24,10 +29,18 @@ module _ (c : After-pack-p) where
   inside = part-inside c.args.part.now c.args.law c.args.set c.args.n c.args.page.now
       c.room_on-room.result fits c.pack-p.ensures
 
-pub returns-in_default : goal.returns-in_default
-returns-in_default c =
-    stays-refused c.args.done c.args.part.now c.args.law c.args.set c.args.n c.args.page.now
-    c.in_default.field-0 c.in_default.is
+refusal_in : (e : Ending) → is_err e ≡ true → (why : Refusal) × (e ≡ Err why)
+refusal_in (Ok _) t = absurd (false≢true t)
+refusal_in (Err why) t = (why, refl)
+
+well : (e : Ending) → is_err e ≡ false → e ≡ Ok tt
+well (Ok _) t = refl
+well (Err why) t = absurd (false≢true (sym t))
+
+pub returns-then-is_err : goal.returns-then-is_err
+returns-then-is_err c =
+    let e = refusal_in c.args.done.end (sym c.is_err.ensures.value ∙ c.if-is_err.true) in
+    stays-refused c.args.done c.args.part.now c.args.law c.args.set c.args.n c.args.page.now e.0 e.1
 
 pub slice_bounds-pack-end-2 : goal.slice_bounds-pack-end-2
 slice_bounds-pack-end-2 c = sym (length-take-le _ _ (omega (arith, c.room_on-room.ensures)))
@@ -47,5 +60,5 @@ pub returns : goal.returns
 returns c =
     let p = c.pack-p in
     part-packed c.args.done c.args.part.now c.args.law c.args.set c.args.n c.room_on-room.result
-    c.args.page.now p.new.out c.in-Done.is
+    c.args.page.now p.new.out (well c.args.done.end (sym c.is_err.ensures.value ∙ c.if-is_err.false))
     c.room_on-room.ensures p.ensures

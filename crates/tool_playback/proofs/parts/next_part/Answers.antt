@@ -37,8 +37,8 @@ returns-then-how c =
     record { next_part = t; goes = goes_of _ _ _ _ _ t }
 
 -- those of a stream
-pub returns : goal.returns
-returns c =
-    let frames = rw c.sure_items-n.ensures at c.next_frames-p.ensures in
-    let t = frames-told _ _ _ _ _ c.if-how.false frames c.part_of-2.ensures in
+pub returns-else-how : goal.returns-else-how
+returns-else-how c =
+    let frames = rw c.sure_items-n.ensures at c.next_frames.ensures in
+    let t = frames-told _ _ _ _ _ c.if-how.false frames c.part_of-else-how.ensures in
     record { next_part = t; goes = goes_of _ _ _ _ _ t }

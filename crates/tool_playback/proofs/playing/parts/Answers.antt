@@ -3,11 +3,13 @@ use borrow.Author.Tests.{not-true, not-false}
 use native.Mathlib.Omega.{arith}
 use Prim.Native.Nat.{◌+◌, ◌*◌, ◌≤◌}
 use mathlib.Core.Path.{◌≡◌, refl, sym, ◌∙◌}
-use mathlib.Core.Bool.{true, false≢true}
+use mathlib.Core.Bool.{true}
 use lib.ListN.{length}
 use Rattle.tool_playback.proofs.Running.{going-first, going_on, goes-whole, next-sound}
 use Rattle.tool_playback.proofs.Running.{number-most, heard-most, at_most, lost-most}
+use Rattle.tool_playback.proofs.Wells.{well_of, ill}
 use Rattle.tool_playback.proofs.playing.parts.Goals.{After-next_part-p, After-use_part-u}
+use Rattle.tool_playback.proofs.playing.parts.Goals.{then-is_err-via-then-is_err, then-is_err-via-else-is_err+then-not-p}
 use Rattle.tool_playback.proofs.playing.parts.Goals as goal
 
 pub loop-to-init : goal.loop-to-init
@@ -81,32 +83,23 @@ pub overflow_add-samples : goal.overflow_add-samples
 overflow_add-samples c =
     omega (arith, heard (goal.at.overflow_add-samples c).After-use_part-u, (further (goal.at.overflow_add-samples c).After-next_part-p).2, c.requires.0)
 
-pub shape_of-page-then-not-is_well : goal.shape_of-page-then-not-is_well
-shape_of-page-then-not-is_well c = page-kept (goal.at.shape_of-page-then-not-is_well c).After-next_part-p
+pub shape_of-page-then-is_err : goal.shape_of-page-then-is_err
+shape_of-page-then-is_err c = page-kept (goal.at.shape_of-page-then-is_err c).After-next_part-p
 
-pub shape_of-master-then-not-is_well : goal.shape_of-master-then-not-is_well
-shape_of-master-then-not-is_well c = master-kept (goal.at.shape_of-master-then-not-is_well c).After-use_part-u
+pub shape_of-master-then-is_err : goal.shape_of-master-then-is_err
+shape_of-master-then-is_err c = master-kept (goal.at.shape_of-master-then-is_err c).After-use_part-u
 
-pub returns-then-not-is_well : goal.returns-then-not-is_well
-returns-then-not-is_well c =
-    let f = further (goal.at.returns-then-not-is_well c).After-next_part-p in
+pub returns-then-is_err : goal.returns-then-is_err
+returns-then-is_err c =
+    let f = further (goal.at.returns-then-is_err c).After-next_part-p in
+    let w = c.loop-to.invariant.0 in
     record {
-      tells_file = (λ e. absurd (false≢true (sym (c.if-not-is_well.true) ∙ c.is_well.ensures ∙ e)));
-      within = record { some = f.0; ends = f.1; few = f.2; held = heard (goal.at.returns-then-not-is_well c).After-use_part-u };
-    }
-
-pub shape_of-page-then-not-p : goal.shape_of-page-then-not-p
-shape_of-page-then-not-p c = page-kept (goal.at.shape_of-page-then-not-p c).After-next_part-p
-
-pub shape_of-master-then-not-p : goal.shape_of-master-then-not-p
-shape_of-master-then-not-p c = master-kept (goal.at.shape_of-master-then-not-p c).After-use_part-u
-
-pub returns-then-not-p : goal.returns-then-not-p
-returns-then-not-p c =
-    let f = further (goal.at.returns-then-not-p c).After-next_part-p in let w = c.loop-to.invariant.0 in record {
-      tells_file = (λ e. goes-whole _ _ w.follows c.next_part-p.ensures.next_part (not-true _ c.if-not-p.true) w.losses
-          (c.use_part-u.ensures.all e));
-      within = record { some = f.0; ends = f.1; few = f.2; held = heard (goal.at.returns-then-not-p c).After-use_part-u };
+      tells_file = elim c.then-is_err.branch [
+        | then-is_err-via-then-is_err b ↦ λ e. absurd (ill _ (sym c.is_err.ensures.value ∙ b.if-is_err.true) e)
+        | then-is_err-via-else-is_err+then-not-p b ↦
+            λ e. goes-whole _ _ w.follows c.next_part-p.ensures.next_part (not-true _ b.if-not-p.true) w.losses (c.use_part-u.ensures.all e)
+      ];
+      within = record { some = f.0; ends = f.1; few = f.2; held = heard (goal.at.returns-then-is_err c).After-use_part-u };
     }
 
 pub loop-to-smaller : goal.loop-to-smaller
@@ -119,7 +112,7 @@ loop-to-smaller c =
 pub loop-to-preserved : goal.loop-to-preserved
 loop-to-preserved c =
     let n = c.next_part-p in
-    let well = sym c.is_well.ensures ∙ c.if-not-is_well.false in (
+    let well = well_of _ (sym c.is_err.ensures.value ∙ c.if-is_err.false) in (
       going_on _ _ c.loop-to.invariant.0 n.ensures.next_part n.auto.out n.auto.cells
           (c.use_part-u.ensures.all well) (not-false _ c.if-not-p.false),
       master-kept (goal.at.loop-to-preserved c).After-use_part-u,

@@ -5,9 +5,9 @@ use Rattle.tool_playback.proofs.Onward.{Along}
 use Rattle.tool_playback.proofs.playing.windows.Given as goal
 
 -- Window after window (Onward); the measure is how far it is to the end.
-abbrev pub invariant-loop-why : goal.invariant-loop-why
-invariant-loop-why l =
+abbrev pub invariant-loop-n : goal.invariant-loop-n
+invariant-loop-n l =
     Along l.how l.done × (l.done.at ≤ l.b.size) × (length l.window ≡ length l.initial.window)
 
-abbrev pub decreases-loop-why : goal.decreases-loop-why
-decreases-loop-why l = l.b.size - l.done.at
+abbrev pub decreases-loop-n : goal.decreases-loop-n
+decreases-loop-n l = l.b.size - l.done.at

@@ -1,8 +1,7 @@
-use native.Mathlib.Omega.{arith}
+use Rattle.std.proofs.Common.{arith}
 use Rattle.tool_sound.specs.Headings.{half_at}
 use Rattle.tool_sound.proofs.wave.half_at.Goals as goal
 
-pub returns : goal.returns
+pub returns-clause-value : goal.returns-clause-value
 unfolding half_at
-returns c =
-    let low = c.wide.ensures in let high = c.wide-2.ensures in record { value = rw (high.value, low.value); small = omega (arith, low.small, high.small) }
+returns-clause-value c = rw (c.from.ensures, c.from_le_bytes.ensures) (omega arith)

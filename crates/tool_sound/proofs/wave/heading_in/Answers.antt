@@ -1,53 +1,38 @@
-use Prim.Native.Nat.{◌-◌}
-use mathlib.Core.Path.{sym, ap, ◌∙◌}
+use Prim.Native.Nat.{◌+◌, ◌-◌}
+use mathlib.Core.Path.{◌≡◌, sym, ◌∙◌}
 use native.Mathlib.Omega.{arith}
-use Rattle.tool_sound.specs.Headings.{chunks_from, onward}
-use Rattle.tool_sound.proofs.Steps.{too_few, no-riff, no-wave, begins, turn, no_more}
+use Rattle.std.specs.Prelude.{Result, Ok}
+use Rattle.tool_sound.specs.declared.wave.Step.{Step}
+use Rattle.tool_sound.specs.declared.wave.Step.TheVariants.{On, Ends}
+use Rattle.tool_sound.specs.declared.wave.Wrong.{Wrong}
+use Rattle.tool_sound.specs.Headings.{step_at, heading_of, chunks_from, onward}
+use Rattle.tool_sound.proofs.Steps.{turn, no_more}
+use Rattle.tool_sound.proofs.wave.heading_in.Goals.{After-step_at}
 use Rattle.tool_sound.proofs.wave.heading_in.Goals as goal
 
-pub returns-then-octets-lt12 : goal.returns-then-octets-lt12
-returns-then-octets-lt12 c = too_few c.args.octets.now (omega arith)
+-- what a chunk leaves of the heading
+turned : (c : After-step_at) {s : Result Step Wrong} → s ≡ step_at c.args.octets.now c.chunks.at c.chunks.seen
+    → heading_of c.args.octets.now ≡ onward c.chunks.at s (chunks_from (32 - (c.chunks.counter + 1)) c.args.octets.now)
+turned c e =
+    let l = c.chunks in
+    l.invariant.0 ∙ turn (32 - l.counter) (32 - (l.counter + 1)) c.args.octets.now l.at l.seen (omega arith) e
 
-pub returns-then-word_at-ne1179011410 : goal.returns-then-word_at-ne1179011410
-returns-then-word_at-ne1179011410 c = no-riff c.args.octets.now (omega arith) c.word_at.ensures c.if-word_at-ne1179011410.true
+pub returns-in-Err : goal.returns-in-Err
+returns-in-Err c = sym (turned (goal.at.returns-in-Err c).After-step_at c.in-Err.ensures)
 
-pub returns-then-word_at-ne1163280727 : goal.returns-then-word_at-ne1163280727
-returns-then-word_at-ne1163280727 c =
-    no-wave c.args.octets.now (omega arith)
-    c.word_at.ensures c.if-word_at-ne1179011410.false c.word_at-2.ensures
-    c.if-word_at-ne1163280727.true
+pub returns-in-Ok-Ends : goal.returns-in-Ok-Ends
+returns-in-Ok-Ends c =
+    let told : ◌≡◌ {A = Result Step Wrong} (Ok (Ends c.in-Ok-Ends.told)) (step_at c.args.octets.now c.chunks.at c.chunks.seen)
+    = cc c.in-Ok-Ends.ensures in
+    sym (turned (goal.at.returns-in-Ok-Ends c).After-step_at told)
 
-pub loop-left-init : goal.loop-left-init
-loop-left-init c = (
-  begins c.args.octets.now (omega arith)
-      c.word_at.ensures c.if-word_at-ne1179011410.false c.word_at-2.ensures
-      c.if-word_at-ne1163280727.false,
-  omega arith,
-  omega arith,
-)
-
-pub step_at-step-requires : goal.step_at-step-requires
-step_at-step-requires c = omega arith
-
-pub returns-in-Ends : goal.returns-in-Ends
-returns-in-Ends c =
-    let l = c.loop-left in
-    let o = c.args.octets.now in
-    let e = turn l.left o l.at l.seen (omega arith) c.step_at-step.ensures in
-    sym (l.invariant.0 ∙ e ∙ ap (λ s. onward l.at s (chunks_from (l.left - 1) o)) c.in-Ends.is)
-
-pub loop-left-preserved : goal.loop-left-preserved
-loop-left-preserved c =
-    let l = c.loop-left in
-    let o = c.args.octets.now in (
-      l.invariant.0 ∙ turn l.left o l.at l.seen (omega arith) c.step_at-step.ensures
-          ∙ ap (λ s. onward l.at s (chunks_from (l.left - 1) o)) c.in-On.is,
-      omega arith,
-      omega arith,
-    )
+pub chunks-preserved : goal.chunks-preserved
+chunks-preserved c =
+    let on : ◌≡◌ {A = Result Step Wrong} (Ok (On c.in-Ok-On.size c.in-Ok-On.met)) (step_at c.args.octets.now c.chunks.at c.chunks.seen)
+    = cc c.in-Ok-On.ensures in
+    (turned (goal.at.chunks-preserved c).After-step_at on, omega arith)
 
 pub returns : goal.returns
 returns c =
-    let l = c.loop-left in
-    let o = c.args.octets.now in
-    sym (l.invariant.0 ∙ no_more l.left o l.at l.seen (omega arith))
+    let l = c.chunks in
+    sym (l.invariant.0 ∙ no_more (32 - l.counter) c.args.octets.now l.at l.seen (omega arith))

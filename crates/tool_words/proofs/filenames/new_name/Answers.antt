@@ -1,25 +1,19 @@
+use Rattle.std.proofs.Common.{sym}
 use Rattle.tool_words.proofs.TextLaws.{laid_as}
 use Rattle.tool_words.proofs.Names.{name-appended, name-replaced}
-use lib.Seq.{length-take-le}
-use native.Mathlib.Omega.{arith}
-use mathlib.Core.Path.{sym, ◌∙◌}
 use Rattle.tool_words.proofs.filenames.new_name.Goals as goal
 
-pub returns-in-Unknown : goal.returns-in-Unknown
-returns-in-Unknown c =
+pub returns-in-None : goal.returns-in-None
+returns-in-None c =
     let a = c.args in
     let e = c.new_ending-ending in
-    laid_as (name-appended a.packs a.law a.name.now e.result (sym c.law_told.ensures ∙ c.in-Unknown.is)
-    e.ensures.value) c.lay.ensures
+    laid_as (name-appended a.packs a.law a.name.now e.result (sym c.in-None.ensures) e.ensures.value) c.lay.ensures
 
-pub slice_bounds-lay-end-in-Known : goal.slice_bounds-lay-end-in-Known
-slice_bounds-lay-end-in-Known c = sym (length-take-le _ _ (omega (arith, c.ending_at-at.ensures.most)))
-
-pub returns-in-Known : goal.returns-in-Known
-returns-in-Known c =
-    let n = c.new_ending-ending in
+pub returns-in-Some : goal.returns-in-Some
+returns-in-Some c =
     let a = c.args in
+    let n = c.new_ending-ending in
     laid_as
-    (name-replaced a.packs a.law a.name.now c.ending_at-at.result _ n.result
-    (sym c.law_told.ensures ∙ c.in-Known.is) c.ending_at-at.ensures.value n.ensures.size n.ensures.value)
-    c.lay-in-Known.ensures
+    (name-replaced a.packs a.law a.name.now c.ending_at.result _ n.result
+    (sym c.in-Some.ensures) c.ending_at.ensures.value n.ensures.size n.ensures.value)
+    c.lay-in-Some.ensures

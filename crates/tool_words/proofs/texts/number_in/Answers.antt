@@ -1,44 +1,46 @@
-use Rattle.tool_words.proofs.Digits.{none-of-none, none-of-many, number-start, number_step, number-low}
-use Rattle.tool_words.proofs.Digits.{number-high, number-end, digits-few, digits_more}
-use native.Mathlib.Omega.{arith}
-use mathlib.Core.Path.{sym, ◌∙◌}
+use Rattle.std.proofs.Common.{arith, sym, ◌∙◌}
+use Rattle.std.proofs.lemmas.Bool.Decides.{nat_tests}
+use Rattle.tool_words.proofs.Digits.{number_step, number-low, number-high, number-end, digits-few, digits_more}
+use Rattle.tool_words.specs.Numbers.{number_in}
 use Rattle.tool_words.proofs.texts.number_in.Goals as goal
+use Rattle.tool_words.proofs.texts.number_in.Goals.{then-is_empty-via-then-is_empty, then-is_empty-via-else-is_empty+then-text-gt9}
 
-pub returns-then-text-eq0 : goal.returns-then-text-eq0
-returns-then-text-eq0 c = sym (none-of-none _ c.if-text-eq0.true)
+pub returns-then-is_empty : goal.returns-then-is_empty
+unfolding number_in
+returns-then-is_empty c =
+    elim c.then-is_empty.branch [
+      | then-is_empty-via-then-is_empty w ↦ grind (arith, nat_tests)
+      | then-is_empty-via-else-is_empty+then-text-gt9 w ↦ grind (arith, nat_tests)
+    ]
 
-pub returns-then-text-gt9 : goal.returns-then-text-gt9
-returns-then-text-gt9 c = sym (none-of-many _ c.if-text-gt9.true)
-
-pub loop-i-init : goal.loop-i-init
-loop-i-init c = (omega arith, omega arith, omega arith, number-start _ c.if-text-eq0.false c.if-text-gt9.false)
-
-pub returns-then-x-lt48 : goal.returns-then-x-lt48
-returns-then-x-lt48 c = sym (c.loop-i.invariant.3
-    ∙ number-low c.args.text.now c.loop-i.v
-    c.loop-i.i (omega arith) (omega arith))
-
-pub returns-then-x-gt57 : goal.returns-then-x-gt57
-returns-then-x-gt57 c = sym (c.loop-i.invariant.3
-    ∙ number-high c.args.text.now c.loop-i.v
-    c.loop-i.i (omega arith) (omega arith))
+pub loop-x-init : goal.loop-x-init
+unfolding number_in
+loop-x-init c = (c.if-text-gt9.false, omega arith, grind (arith, nat_tests))
 
 pub overflow_mul-v : goal.overflow_mul-v
-overflow_mul-v c = omega (arith, digits-few _ _ c.loop-i.invariant.2 (omega arith))
+overflow_mul-v c = omega (arith, digits-few _ _ c.loop-x.invariant.1 (omega arith))
 
 pub overflow_add-v : goal.overflow_add-v
-overflow_add-v c = omega (arith, digits-few _ _ c.loop-i.invariant.2 (omega arith))
+overflow_add-v c = omega (arith, digits-few _ _ c.loop-x.invariant.1 (omega arith))
 
-pub loop-i-preserved : goal.loop-i-preserved
-loop-i-preserved c = (
-  omega arith,
-  omega arith,
-  digits_more _ _ _ c.loop-i.invariant.2 (omega arith),
-  c.loop-i.invariant.3 ∙ number_step c.args.text.now
-      c.loop-i.v c.loop-i.i (omega arith)
-      (omega arith) (omega arith),
-)
+pub loop-x-preserved : goal.loop-x-preserved
+loop-x-preserved c =
+    let l = c.loop-x in
+    rw c.from.ensures (
+      l.invariant.0,
+      digits_more _ _ _ l.invariant.1 (omega arith),
+      l.invariant.2 ∙ number_step c.args.text.now l.v l.x-index (omega arith) (omega arith) (omega arith),
+    )
+
+pub returns-in_default : goal.returns-in_default
+returns-in_default c =
+    let l = c.loop-x in
+    sym (l.invariant.2 ∙ number-low c.args.text.now l.v l.x-index (omega arith) (omega arith))
+
+pub returns-in_default-2 : goal.returns-in_default-2
+returns-in_default-2 c =
+    let l = c.loop-x in
+    sym (l.invariant.2 ∙ number-high c.args.text.now l.v l.x-index (omega arith) (omega arith))
 
 pub returns : goal.returns
-returns c = sym (c.loop-i.invariant.3 ∙ number-end c.args.text.now c.loop-i.v
-    c.loop-i.i (omega arith))
+returns c = sym (c.loop-x.invariant.2 ∙ number-end c.args.text.now c.loop-x.v c.loop-x.x-index (omega arith))

@@ -1,7 +1,4 @@
-use Prim.Native.Nat.{ℕ, ◌-◌, ◌≤◌}
-use mathlib.Core.Path.{◌≡◌}
-use mathlib.Core.List.{map}
-use lib.ListN.{take}
+use Rattle.std.proofs.Common.{ℕ, ◌≡◌, map}
 use lib.Seq.{paste}
 use Rattle.rules.specs.Samples.{signed}
 use Rattle.rules.specs.Fractional.{digit_for}
@@ -12,7 +9,4 @@ abbrev pub digit : ℕ → ℕ → ℕ → ℕ → ℕ
 digit mask low below x = digit_for low below (signed mask x)
 
 abbrev pub invariant-loop-i : goal.invariant-loop-i
-invariant-loop-i l = (l.i ≤ l.n) × (l.digits ≡ paste l.initial.digits 0 (map (digit l.mask l.low l.below) (take l.n l.samples)) l.i)
-
-abbrev pub decreases-loop-i : goal.decreases-loop-i
-decreases-loop-i l = l.n - l.i
+invariant-loop-i l = l.digits ≡ paste l.initial.digits 0 (map (digit l.mask l.low l.below) l.frame) l.i

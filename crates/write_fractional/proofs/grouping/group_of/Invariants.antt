@@ -1,13 +1,9 @@
-use Prim.Native.Nat.{◌≤◌}
-use mathlib.Core.Path.{◌≡◌}
-use lib.ListN.{take, drop}
-use Rattle.rules.specs.Fractional.{of_digits}
-use mathlib.Core.List.{map}
-use Rattle.write_fractional.specs.Digits.{same}
+use Rattle.std.specs.Slice.Iter.{iter_rest}
+use Rattle.write_fractional.proofs.Placing.{GroupTurn}
 use Rattle.write_fractional.proofs.grouping.group_of.Given as goal
 
-abbrev pub invariant-loop-j : goal.invariant-loop-j
-invariant-loop-j l = (l.v ≡ of_digits l.r (drop l.j (take l.g (drop l.from (map same (take l.n l.digits)))))) × (l.j ≤ l.g)
-
-abbrev pub decreases-loop-j : goal.decreases-loop-j
-decreases-loop-j l = l.j
+abbrev pub invariant-loop-d : goal.invariant-loop-d
+invariant-loop-d g l =
+    (goal.iterator-loop-d g).can_next l.d-iterator
+    × (goal.iterator-loop-d g).is_finite l.d-iterator
+    × GroupTurn l.group l.r (iter_rest l.d-iterator.iter) l.v

@@ -1,49 +1,44 @@
-use mathlib.Core.List.{map}
-use native.Mathlib.Omega.{arith}
-use lib.ListN.{take}
-use lib.Seq.{length-take-le}
-use Rattle.rules.proofs.Octets.{below_all}
-use Rattle.rules.proofs.Fractional.{group-fits}
-use Rattle.write_fractional.specs.Digits.{same}
-use Rattle.write_fractional.proofs.Placing.{putting-none, putting-able, putting-turn, putting-all, group-bits}
+use Rattle.std.proofs.Common.{◌≡◌, ◌+◌, ◌*◌, ap, ◌∙◌, arith}
+use Rattle.rules.specs.Fractional.{of_digits}
+use Rattle.rules.proofs.Octets.{below_all, below_at, below-take, below-drop}
+use Rattle.write_fractional.proofs.Placing.{putting-able, putting-turn, putting-all, group-bits, group-at, group-within, groups-all}
 use Rattle.write_fractional.proofs.grouping.put_groups.Goals as goal
 
-pub loop-from-init : goal.loop-from-init
-loop-from-init c = putting-none _ _ c.requires.packs.0 (length-take-le c.args.n c.args.digits.now c.requires.packs.1) c.requires.able
+pub group_of-requires : goal.group_of-requires
+group_of-requires g c =
+    let p = c.requires.packs in
+    let is = group-at g.row.G _ c.loop-group.group-index c.args.digits.now c.group-item.result c.as_chunks.ensures.front
+    c.as_chunks.ensures.front_len c.loop-group-test.true c.group-item.is in
+    let small = below-take g.row.G (below-drop (g.row.G * c.loop-group.group-index) (below_all c.args.digits.now c.requires.by_index)) in
+    (omega (arith, p.five), ((p.five, p.some, p.few), λ i. rw is (below_at small (omega (arith, p.some)) i)))
 
-pub group_of-v-requires : goal.group_of-v-requires
-group_of-v-requires c =
-    let t = c.loop-from.invariant in
-    let f = group-fits t.more _ c.args.g c.args.n t.left (omega arith) in
-    let p = c.requires.packs.0 in
-    record { g_bound = (f, c.requires.packs.1, c.requires.packs.2, p.five, p.some, p.few); by_index = c.requires.by_index }
+pub put-requires : goal.put-requires
+put-requires g c =
+    let p = c.requires.packs in
+    let l = c.loop-group in
+    let within = group-within p l.group-index (omega (arith, c.as_chunks.ensures.front_len, c.loop-group-test.true)) in
+    let is = group-at g.row.G _ l.group-index c.args.digits.now c.group-item.result c.as_chunks.ensures.front
+    c.as_chunks.ensures.front_len c.loop-group-test.true c.group-item.is in
+    let fits = group-bits p c.args.digits.now (g.row.G * l.group-index) (below_all c.args.digits.now c.requires.by_index) within in
+    record {
+      able = putting-able p l.invariant c.requires.able (omega (arith, within, p.group));
+      n_bound = (omega (arith, p.bits), rw (c.group_of.ensures, is) fits);
+    }
 
-pub put-q-requires : goal.put-q-requires
-put-q-requires c =
-    let p = c.requires.packs.0 in
-    let t = c.loop-from.invariant in
-    let f = group-fits t.more _ c.args.g c.args.n t.left (omega arith) in
-    let all = map same (take c.args.n c.args.digits.now) in
-    let b = group-bits p same (take c.args.n c.args.digits.now) c.loop-from.from
-    (below_all all c.requires.by_index) (rw (length-take-le c.args.n c.args.digits.now c.requires.packs.1) f) in record
-    { able = putting-able p t c.requires.able (omega arith); n_bound = (omega (arith, p.bits), rw c.group_of-v.ensures b) }
-
-pub overflow_add-from : goal.overflow_add-from
-overflow_add-from c =
-    let t = c.loop-from.invariant in
-    let f = group-fits t.more _ c.args.g c.args.n t.left (omega arith) in
-    omega (arith, c.requires.packs.0.room)
-
-pub loop-from-smaller : goal.loop-from-smaller
-loop-from-smaller c = omega (arith, c.requires.packs.0.group)
-
-pub loop-from-preserved : goal.loop-from-preserved
-loop-from-preserved c =
-    putting-turn c.requires.packs.0 c.loop-from.invariant (omega arith) c.group_of-v.ensures
-    c.put-q.ensures c.put-q.auto.out
-
-pub shape_of-out : goal.shape_of-out
-shape_of-out c = c.loop-from.invariant.size
+pub loop-group-preserved : goal.loop-group-preserved
+loop-group-preserved g c =
+    let p = c.requires.packs in
+    let l = c.loop-group in
+    let within = group-within p l.group-index (omega (arith, c.as_chunks.ensures.front_len, c.loop-group-test.true)) in
+    let is = group-at g.row.G _ l.group-index c.args.digits.now c.group-item.result c.as_chunks.ensures.front
+    c.as_chunks.ensures.front_len c.loop-group-test.true c.group-item.is in
+    let next : g.row.G * (l.group-index + 1) ≡ g.row.G * l.group-index + g.row.G = omega arith in
+    rw next
+    (putting-turn p l.invariant (omega (arith, within, p.group)) (c.group_of.ensures ∙ ap (of_digits c.args.r) is) c.put.ensures
+    c.put.auto.out)
 
 pub returns : goal.returns
-returns c = putting-all c.requires.packs.0 c.loop-from.invariant (omega arith)
+returns g c =
+    let p = c.requires.packs in
+    putting-all p c.loop-group.invariant
+    (groups-all p c.loop-group.group-index (omega (arith, c.as_chunks.ensures.front_len, c.loop-group-test.false)))

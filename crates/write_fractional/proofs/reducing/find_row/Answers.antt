@@ -1,25 +1,16 @@
-use mathlib.Core.Path.{sym, ◌∙◌}
-use native.Mathlib.Omega.{arith}
-use Rattle.write_fractional.proofs.Keyed.{finding-none, finding-hit, finding-miss, finding-end, key-told}
+use Rattle.std.proofs.Common.{sym, ◌∙◌, arith}
+use Rattle.write_fractional.proofs.Keyed.{finding-hit, finding-miss, finding-end, key-told}
 use Rattle.write_fractional.proofs.reducing.find_row.Goals as goal
 
-pub loop-k-init : goal.loop-k-init
-loop-k-init c = finding-none _ _ _ _
-
-pub returns-then-key_at-key : goal.returns-then-key_at-key
-returns-then-key_at-key c =
-    finding-hit c.loop-k.invariant (omega arith) c.requires (omega arith)
-    (sym c.key_at.ensures ∙ c.if-key_at-key.true ∙ key-told _ _ _ c.args.least c.args.greatest c.args.minus
-    c.wide.ensures.0
-    c.wide-2.ensures.0 c.flag.ensures.0)
+pub returns-then-key_at-key-clause-row : goal.returns-then-key_at-key-clause-row
+returns-then-key_at-key-clause-row c =
+    finding-hit c.loop-k.invariant (omega arith) c.requires c.loop-k-test.true
+    (sym c.key_at.ensures ∙ c.if-key_at-key.true ∙ key-told c.args.minus c.from.ensures c.from-2.ensures c.from-3.ensures)
 
 pub loop-k-preserved : goal.loop-k-preserved
 loop-k-preserved c =
-    finding-miss c.loop-k.invariant (omega arith) c.requires (omega arith)
-    (λ z. c.if-key_at-key.false (c.key_at.ensures ∙ z
-    ∙ sym (key-told _ _ _ c.args.least c.args.greatest c.args.minus c.wide.ensures.0
-    c.wide-2.ensures.0 c.flag.ensures.0)))
+    finding-miss c.loop-k.invariant (omega arith) c.requires c.loop-k-test.true
+    (λ z. c.if-key_at-key.false (c.key_at.ensures ∙ z ∙ sym (key-told c.args.minus c.from.ensures c.from-2.ensures c.from-3.ensures)))
 
-pub returns : goal.returns
-returns c =
-    finding-end c.loop-k.invariant (omega arith) c.requires (omega arith)
+pub returns-clause-row : goal.returns-clause-row
+returns-clause-row c = finding-end c.loop-k.invariant (omega arith) c.requires c.loop-k-test.false

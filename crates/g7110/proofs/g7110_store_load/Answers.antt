@@ -1,9 +1,0 @@
--- The definition's number, and its table.
-use mathlib.Core.Path.{ap, ◌∙◌}
-use Rattle.store.specs.Calls.{number_of}
-use Rattle.g7110.proofs.g7110_store_load.Goals as goal
-
-pub returns : goal.returns
-returns c =
-    let t = c.load-a.ensures in
-    record { number = c.number_of.ensures ∙ ap number_of t.answer; table = t.table }

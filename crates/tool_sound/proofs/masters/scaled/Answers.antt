@@ -1,8 +1,0 @@
-use Rattle.tool_sound.proofs.Values.{shifted, unit-a, unit-mu}
-use Rattle.tool_sound.proofs.masters.scaled.Goals as goal
-
-pub returns-then-law-eq0 : goal.returns-then-law-eq0
-returns-then-law-eq0 c = shifted c.args.law c.ranges.v (unit-a c.args.law c.if-law-eq0.true)
-
-pub returns : goal.returns
-returns c = shifted c.args.law c.ranges.v (unit-mu c.args.law c.if-law-eq0.false)

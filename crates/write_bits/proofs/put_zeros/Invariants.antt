@@ -1,8 +1,0 @@
-use Rattle.write_bits.proofs.Rice.{ZerosTurn}
-use Rattle.write_bits.proofs.put_zeros.Given as goal
-
-abbrev pub invariant-loop-zeros : goal.invariant-loop-zeros
-invariant-loop-zeros l = ZerosTurn l.initial.out l.v l.initial.q l.out l.q l.zeros
-
-abbrev pub decreases-loop-zeros : goal.decreases-loop-zeros
-decreases-loop-zeros l = l.zeros

@@ -1,5 +1,0 @@
-use mathlib.Core.Path.{refl}
-use Rattle.write_measure.proofs.octets_for.Goals as goal
-
-pub returns : goal.returns
-returns c = refl

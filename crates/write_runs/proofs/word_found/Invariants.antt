@@ -1,9 +1,0 @@
-use Prim.Native.Nat.{◌+◌, ◌*◌}
-use Rattle.write_runs.proofs.Values.{InSamples}
-use Rattle.write_runs.proofs.word_found.Given as goal
-
-abbrev pub invariant-loop-w : goal.invariant-loop-w
-invariant-loop-w l = InSamples l.v l.samples l.found l.a l.b l.c l.w (40 * (l.i + 1))
-
-abbrev pub decreases-loop-w : goal.decreases-loop-w
-decreases-loop-w l = l.w
