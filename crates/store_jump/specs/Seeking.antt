@@ -1,6 +1,7 @@
 -- Document 02, R-9: "name the frame that holds it, its octet place and the sample's place in the frame, from the last mark at or before
 -- it".
-use Rattle.std.specs.Prelude.{ℕ, zero, suc, ◌+◌, ◌-◌, ◌/◌, ◌≤◌, ◌<◌, ◌≡◌, List, [], ◌∷◌, ◌++◌, cond, length, get_or, leb, ltb, Option, Some, None}
+use Rattle.std.specs.Prelude.{ℕ, zero, suc, ◌+◌, ◌-◌, ◌/◌, ◌≤◌, ◌<◌, ◌≡◌}
+use Rattle.std.specs.Prelude.{List, [], ◌∷◌, ◌++◌, cond, length, get_or, leb, ltb, Option, Some, None}
 use Rattle.rules.specs.Walk.{Delivered, Walked, walk_from, samples_kept}
 use Rattle.store_greeting.specs.Bad.{walk_of, store_set, never_short}
 use Rattle.store_greeting.specs.Marks.{Mark, mark_of, frames_apart}

@@ -1,6 +1,7 @@
 -- The heading of a WAV file as the bench tools take it: `RIFF`, a length, `WAVE`, then chunks up to the one of the sound, `data`.
 -- Numbers have their low octet first. The format is PCM (1), 1 channel, 8,000 Hz, 16 bits. Other chunks are skipped.
-use Rattle.std.specs.Prelude.{ℕ, zero, suc, ◌+◌, ◌-◌, ◌*◌, ◌/◌, ◌%◌, Bool, true, false, cond, ◌&&◌, List, [], ◌∷◌, eqb, ltb, length, get_or, Result, Ok, Err}
+use Rattle.std.specs.Prelude.{ℕ, zero, suc, ◌+◌, ◌-◌, ◌*◌, ◌/◌, ◌%◌, Bool, true, false, cond, ◌&&◌}
+use Rattle.std.specs.Prelude.{List, [], ◌∷◌, eqb, ltb, length, get_or, Result, Ok, Err}
 use Rattle.tool_sound.specs.declared.wave.Heading.{Heading}
 use Rattle.tool_sound.specs.declared.wave.Heading.TheVariants.{More, Sound}
 use Rattle.tool_sound.specs.declared.wave.Wrong.{Wrong}

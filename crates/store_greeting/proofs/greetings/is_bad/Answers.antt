@@ -1,6 +1,8 @@
 use native.Mathlib.Omega.{arith}
 use Rattle.store_greeting.proofs.Bad.{bad-empty, bad-law, bad-long, bad-walked}
-use Rattle.store_greeting.proofs.greetings.is_bad.Goals.{then-len-lt1-via-then-len-lt1, then-len-lt1-via-else-len-lt1+then-law-gt-MOST_LAW, then-len-lt1-via-else-len-lt1+else-law-gt-MOST_LAW+then-len-gt-LONGEST}
+use Rattle.store_greeting.proofs.greetings.is_bad.Goals.{then-len-lt1-via-then-len-lt1}
+use Rattle.store_greeting.proofs.greetings.is_bad.Goals.{then-len-lt1-via-else-len-lt1+then-law-gt-MOST_LAW}
+use Rattle.store_greeting.proofs.greetings.is_bad.Goals.{then-len-lt1-via-else-len-lt1+else-law-gt-MOST_LAW+then-len-gt-LONGEST}
 use Rattle.store_greeting.proofs.greetings.is_bad.Goals as goal
 
 pub returns-then-len-lt1 : goal.returns-then-len-lt1

@@ -11,7 +11,8 @@ use Rattle.store_rows.proofs.Finding.{place-some, place-none}
 use Rattle.store_moves.specs.Next.{renumbered_at}
 use Rattle.store_moves.proofs.Calling.{find-held, find-free, number-told, denied, made}
 use Rattle.store_moves.proofs.Calling.{renumber-first, renumber-second, renumber-absent, renumber-taken, renumber-made}
-use Rattle.store_moves.proofs.calls.renumber_in.Goals.{then-not-is_number-via-then-not-is_number, then-not-is_number-via-else-not-is_number+then-not-is_number-2}
+use Rattle.store_moves.proofs.calls.renumber_in.Goals.{then-not-is_number-via-then-not-is_number}
+use Rattle.store_moves.proofs.calls.renumber_in.Goals.{then-not-is_number-via-else-not-is_number+then-not-is_number-2}
 use Rattle.store_moves.proofs.calls.renumber_in.Goals.{Else-not-is_number-2, In-Some}
 use Rattle.store_moves.proofs.calls.renumber_in.Goals as goal
 

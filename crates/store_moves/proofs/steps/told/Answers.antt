@@ -1,7 +1,8 @@
 use native.Mathlib.Omega.{arith}
 use Rattle.store_moves.proofs.Worded.{bad-page, bad-six, bad-seven, no-sense, told-moving, bad-state, bad-spare, told-lifted}
 use Rattle.store_moves.proofs.Worded.{sensible-down}
-use Rattle.store_moves.proofs.steps.told.Goals.{then-words-gt1-via-then-words-gt1, then-words-gt1-via-else-words-gt1+then-words-gt0, then-words-gt1-via-else-words-gt1+else-words-gt0+then-words-gt0-2}
+use Rattle.store_moves.proofs.steps.told.Goals.{then-words-gt1-via-then-words-gt1, then-words-gt1-via-else-words-gt1+then-words-gt0}
+use Rattle.store_moves.proofs.steps.told.Goals.{then-words-gt1-via-else-words-gt1+else-words-gt0+then-words-gt0-2}
 use Rattle.store_moves.proofs.steps.told.Goals as goal
 
 pub returns-then-words-gt1 : goal.returns-then-words-gt1

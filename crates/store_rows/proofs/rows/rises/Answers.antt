@@ -4,7 +4,9 @@ use mathlib.Core.List.{List}
 use Rattle.store_rows.specs.declared.rows.Row.{Row}
 use Rattle.store_rows.specs.Sane.{rising}
 use Rattle.store_rows.proofs.Rising.{Next, rising-turn, rising-stops}
-use Rattle.store_rows.proofs.rows.rises.Goals.{then-r-end-via-then-r-end, then-r-end-via-else-r-end+then-r-least, then-r-end-via-else-r-end+else-r-least+then-size-r, then-r-end-via-else-r-end+else-r-least+else-size-r+then-size-r-2}
+use Rattle.store_rows.proofs.rows.rises.Goals.{then-r-end-via-then-r-end, then-r-end-via-else-r-end+then-r-least}
+use Rattle.store_rows.proofs.rows.rises.Goals.{then-r-end-via-else-r-end+else-r-least+then-size-r}
+use Rattle.store_rows.proofs.rows.rises.Goals.{then-r-end-via-else-r-end+else-r-least+else-size-r+then-size-r-2}
 use Rattle.store_rows.proofs.rows.rises.Goals as goal
 
 pub returns-then-r-end : goal.returns-then-r-end

@@ -11,14 +11,18 @@ returns-then-b-i-clause-value c =
     let l = c.loop-i in
     elim c.then-b-i.branch [
       | then-b-i-via-then-b-i w ↦ sym (l.invariant.1 ∙ agree-second s.a.now s.b.now l.i w.if-b-i.true)
-      | then-b-i-via-else-b-i+then-b-i-2 w ↦ sym (l.invariant.1 ∙ agree_differ s.a.now s.b.now l.i (omega arith) (omega (arith, w.if-b-i.false)) (λ e. w.if-b-i-2.true (sym e)))
+      | then-b-i-via-else-b-i+then-b-i-2 w ↦
+          sym (l.invariant.1
+          ∙ agree_differ s.a.now s.b.now l.i (omega arith) (omega (arith, w.if-b-i.false)) (λ e. w.if-b-i-2.true (sym e)))
     ]
 
 pub loop-i-preserved : goal.loop-i-preserved
 loop-i-preserved c =
     let s = c.args in
-    let l = c.loop-i in
-    (omega (arith, c.if-b-i.false), l.invariant.1 ∙ agree-step s.a.now s.b.now l.i (omega arith) (omega (arith, c.if-b-i.false)) (sym c.if-b-i-2.false))
+    let l = c.loop-i in (
+      omega (arith, c.if-b-i.false),
+      l.invariant.1 ∙ agree-step s.a.now s.b.now l.i (omega arith) (omega (arith, c.if-b-i.false)) (sym c.if-b-i-2.false),
+    )
 
 pub returns-clause-value : goal.returns-clause-value
 returns-clause-value c =

@@ -51,7 +51,8 @@ pub returns-then-not-holds : goal.returns-then-not-holds
 returns-then-not-holds c =
     let pre = c.requires in
     rw c.plain_by.ensures
-    (zeros-without c.args.mask c.args.set c.args.frame.now (mask-seven _ pre.frame_in.1) pre.left.1 refl pre.frame_in.0.few pre.left.0.later c.uncompressed_of-uncompressed.ensures
+    (zeros-without c.args.mask c.args.set c.args.frame.now (mask-seven _ pre.frame_in.1) pre.left.1 refl pre.frame_in.0.few
+    pre.left.0.later c.uncompressed_of-uncompressed.ensures
     c.holds-then-not-holds.ensures c.binary_bits-bits.ensures pre.row_is (sym c.holds.ensures ∙ c.if-not-holds.true) c.better-five.ensures)
 
 pub better-six-requires : goal.better-six-requires
@@ -70,7 +71,8 @@ pub returns : goal.returns
 returns c =
     let pre = c.requires in
     rw c.zeros_by.ensures
-    (zeros-planned c.args.mask c.args.set c.args.frame.now (mask-seven _ pre.frame_in.1) pre.left.1 refl pre.frame_in.0.few pre.left.0.later c.uncompressed_of-uncompressed.ensures
+    (zeros-planned c.args.mask c.args.set c.args.frame.now (mask-seven _ pre.frame_in.1) pre.left.1 refl pre.frame_in.0.few
+    pre.left.0.later c.uncompressed_of-uncompressed.ensures
     c.holds-2.ensures c.binary_bits-bits.ensures pre.row_is (sym c.holds.ensures ∙ c.if-not-holds.false)
     (c.rice_of-rice.ensures c.args.mask c.args.frame.now (are (goal.at.returns c).After-count_of-minus))
     c.better-six.ensures c.better-five-2.ensures)
