@@ -99,9 +99,9 @@
  *   itself, and none is called by a pointer; a test sees to it. Beside the bound each greater call is measured, by tests/c/stack.c, on
  *   frames of every kind, few and many settings and greetings, and files with losses. The test prints both, and holds both against
  *   this figure and the measured one against the bound.
- *   Three functions of the C library are called, memcpy, memmove and memset; they are taken to use 256 octets at most. A lazy linker
- *   looks each of them up at its first call, on the same stack. That is not in the figure: some 3,000 octets more were measured,
- *   once. Where stack is short, link with `-z now` or statically.
+ *   Two functions of the C library are called, memcpy and memset; they are taken to use 256 octets at most. A lazy linker looks each of
+ *   them up at its first call, on the same stack. That is not in the figure: some 3,000 octets more were measured, once. Where stack
+ *   is short, link with `-z now` or statically.
  *
  * MEMORY
  *   What a box lends for its store, in octets, for the two sizes of a block; G7110_CELLS(size) is g7110_store_cells(size), and

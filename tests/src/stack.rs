@@ -4,10 +4,10 @@
 
 use std::collections::{BTreeMap, BTreeSet};
 
-/// What the C library's own functions are taken to use, their return address left out. They are memcpy, memmove and memset; in glibc they
-/// keep no more than a few registers. Not in it: what a lazy linker uses once, at the first call of a name.
+/// What the C library's own functions are taken to use, their return address left out. They are memcpy and memset; in glibc they keep
+/// no more than a few registers. Not in it: what a lazy linker uses once, at the first call of a name.
 pub const LIBRARY: u64 = 256;
-const LIBRARY_CALLS: [&str; 3] = ["memcpy", "memmove", "memset"];
+const LIBRARY_CALLS: [&str; 2] = ["memcpy", "memset"];
 
 /// An instruction: its place in its function, its words, and what a relocation puts into it: a name, and what is added.
 struct Line {

@@ -12,7 +12,7 @@ use tool_words::options::{Settings, Tool};
 use tool_words::refusals::refusal_name;
 
 // A call that can't be made, why, and the last line.
-fn usage(rt: HostRuntime, why: &str) {
+fn usage(rt: HostRuntime, why: &[u8]) {
     tool_console::usage(rt, Tool::Mend, why);
 }
 
@@ -133,16 +133,16 @@ fn main(rt: HostRuntime) {
     let Ok((w, _)) = tool_console::words(rt, Tool::Mend) else {
         usage(
             rt,
-            "an argument is not known, or no number of 1 to 9 digits",
+            b"an argument is not known, or no number of 1 to 9 digits",
         );
         return;
     };
     let Some(total) = w.said.total else {
-        usage(rt, "the total is not said");
+        usage(rt, b"the total is not said");
         return;
     };
     if w.said.outfile.is_none() {
-        usage(rt, "INFILE and OUTFILE must be said");
+        usage(rt, b"INFILE and OUTFILE must be said");
         return;
     }
     mend_as(rt, w.said, total);

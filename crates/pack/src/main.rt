@@ -230,7 +230,7 @@ fn say_done(rt: HostRuntime, run: Run, job: Job, keep: &File, b: Body)
 fn failed(rt: HostRuntime, wrong: Amiss, names: Names<'_>) {
     match wrong {
         Amiss::Unread(why) => tool_console::unread(rt, Tool::Pack, names.from, why),
-        Amiss::Unkept(why) => tool_console::failed(rt, Tool::Pack, b"/tmp", "/tmp", why),
+        Amiss::Unkept(why) => tool_console::failed(rt, Tool::Pack, b"/tmp", b"/tmp", why),
         Amiss::Unwritten(why) => tool_console::unwritten(rt, Tool::Pack, names.to, why),
     }
 }
@@ -345,14 +345,14 @@ fn pack_file(rt: HostRuntime, job: Job, names: Names<'_>, part: &mut [u8], page:
 // The settings are whole: the name of what is written, and then the sound.
 fn pack_named(rt: HostRuntime, s: Settings, law: u32, from: &[u8], space: &mut [u8]) {
     if s.flags.records && s.outfile.is_none() && !from.is_empty() {
-        tool_console::usage(rt, Tool::Pack, "with -r OUTFILE must be said");
+        tool_console::usage(rt, Tool::Pack, b"with -r OUTFILE must be said");
         return;
     }
     let Some(to) = tool_console::target_name(rt, s, law, from, space) else {
         tool_console::usage(
             rt,
             Tool::Pack,
-            "the name of INFILE is too long for another ending",
+            b"the name of INFILE is too long for another ending",
         );
         return;
     };

@@ -48,7 +48,7 @@ pub fn lay(body: Plain, octets: &[u8], n: usize, cells: &mut [u8])
     ensures { cells.new ≡ at_start (laid_by body octets.now n) cells.old }
 {
     match body {
-        Plain::Octets => cells[..n].copy_from_slice(&octets[1..n + 1]),
+        Plain::Octets => rules::copy_over(&mut cells[..n], &octets[1..n + 1]),
         Plain::Same(x) => cells[..n].fill(x),
     }
 }

@@ -1,4 +1,4 @@
--- A frame of tools 1 to 4: its reading by what its body gives (`gives`), and where it is laid (`lies-fit`, `laid-into`).
+-- A frame of tools 1 to 4: its reading, and what of it is to be laid, by what its body gives (`gives`).
 use Prim.Native.Nat.{ℕ, ◌≤◌}
 use mathlib.Core.Path.{◌≡◌, sym, ap, ◌∙◌}
 use mathlib.Core.List.{List}

@@ -289,7 +289,7 @@ pub fn put_out(samples: &[u8], n: usize, out: &mut [u8])
     requires { (n ≤ length samples.now) × (n ≤ length out.old) }
     ensures { out.new ≡ take n samples.now ++ drop n out.old }
 {
-    out[..n].copy_from_slice(&samples[..n]);
+    rules::copy_over(&mut out[..n], &samples[..n]);
 }
 
 // One frame read into the output: what is reported, and an accepted frame's samples at the output's start.

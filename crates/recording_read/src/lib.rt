@@ -178,7 +178,7 @@ pub fn play_on(
         match item_at(octets, law, set, place, out.len() - to, &mut samples) {
             Err(stop) => return so_far(Err(Refusal::Frame(stop.why)), count, place, to, stop.bit),
             Ok(turn) => {
-                out[to..to + turn.len].copy_from_slice(&samples[..turn.len]);
+                rules::copy_over(&mut out[to..to + turn.len], &samples[..turn.len]);
                 cells[count] = turn.cell;
                 place += turn.octets;
                 to += turn.len;

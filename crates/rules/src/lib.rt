@@ -3,7 +3,7 @@
 // What each case and each answer means stands in specs/.
 #![tactic(auto)]
 
-ghost use Rattle.std.specs.Prelude.{◌≡◌, ℕ};
+ghost use Rattle.std.specs.Prelude.{◌≡◌, ℕ, length};
 ghost use Rattle.rules.specs.Refusals.{refusal_number, refusal_tool, numbered, tool_named, verdict};
 ghost use Rattle.rules.specs.Refusals.{refusal-not-zero};
 ghost use Rattle.rules.specs.Tools.{is_length, reader_asks, writer_asks};
@@ -117,6 +117,17 @@ pub const LONGEST: usize = 1048576;
 pub const MOST_LISTED: usize = 65535;
 
 pub const LISTED_TOOLS: u32 = 127;
+
+// Values over as many others. A loop, since std's `copy_from_slice` asks the C library for memmove, which the archive does without.
+pub fn copy_over<T: Copy>(to: &mut [T], from: &[T])
+    requires { length to.old ≡ length from.now }
+    ensures len { length to.new ≡ length to.old }
+    ensures after { to.new ≡ from.now }
+{
+    for (i, &x) in from.iter().enumerate() {
+        to[i] = x;
+    }
+}
 
 // "Order: LAW, SET": what a reader asks.
 pub fn guard(law: u32, set: u32) -> Ending

@@ -190,7 +190,7 @@ fn with_added(state: &[u32], v: Settings) -> [u32; 41]
     let from = first_kept(k);
     let mut next = [0u32; 41];
     next[0] = number;
-    next[1..].copy_from_slice(&rows[from..from + 40]);
+    rules::copy_over(&mut next[1..], &rows[from..from + 40]);
     next
 }
 

@@ -91,7 +91,7 @@ fn place(
     ensures { PlacedAt i at number octets.now block.old table.old
         block.new table.new }
 {
-    block[at..at + octets.len()].copy_from_slice(octets);
+    rules::copy_over(&mut block[at..at + octets.len()], octets);
     store_rows::placing::insert(
         table,
         n,

@@ -111,16 +111,16 @@ module _ {rows : List Row} {size to moved : ℕ} {rest : List Row} (s : Summing 
     unfolding held
     summing-room = let i = rw e at s.inside in omega (arith, i)
 
-    module _ {m : ℕ} (q : m ≡ moved_one r.start to r.octets) where
-      pub summing-few : moved + m ≤ to + r.octets
-      summing-few = omega (arith, q, moved-few r.start to r.octets, s.few)
+    -- wherever it goes
+    pub summing-few : {m : ℕ} (at : ℕ) → m ≡ moved_one r.start at r.octets → moved + m ≤ to + r.octets
+    summing-few at q = omega (arith, q, moved-few r.start at r.octets, s.few)
 
-      pub summing-turn : Summing rows size (to + r.octets) (moved + m) rs
-      unfolding moved_from held
-      summing-turn =
-          let a = rw e at s.all in
-          let i = rw e at s.inside in
-          record { all = omega (arith, q, a); few = summing-few; inside = omega (arith, i) }
+    pub summing-turn : {m : ℕ} → m ≡ moved_one r.start to r.octets → Summing rows size (to + r.octets) (moved + m) rs
+    unfolding moved_from held
+    summing-turn q =
+        let a = rw e at s.all in
+        let i = rw e at s.inside in
+        record { all = omega (arith, q, a); few = summing-few to q; inside = omega (arith, i) }
 
   pub summing-end : rest ≡ [] → moved ≡ moved_from 0 rows
   unfolding moved_from

@@ -57,7 +57,7 @@ fn hop_or_lift(block: &mut [u8], spare: &mut [u8], m: Move) -> State
         return grown(m, k);
     }
     let end = from + left.min(size);
-    spare[..end - from].copy_from_slice(&block[from..end]);
+    rules::copy_over(&mut spare[..end - from], &block[from..end]);
     State::Lifted(m)
 }
 
@@ -70,7 +70,7 @@ fn lay(block: &mut [u8], spare: &[u8], m: Move) -> State
 {
     let k = (m.octets - m.done).min(spare.len());
     let to = m.to + m.done;
-    block[to..to + k].copy_from_slice(&spare[..k]);
+    rules::copy_over(&mut block[to..to + k], &spare[..k]);
     grown(m, k)
 }
 

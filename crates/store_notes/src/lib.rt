@@ -88,7 +88,7 @@ fn open_up(cells: &mut [u32], at: usize, used: usize, new: &[u32])
     ensures { cells.new ≡ opened cells.old at used new.now }
 {
     cells.copy_within(at..used, at + new.len());
-    cells[at..at + new.len()].copy_from_slice(new);
+    rules::copy_over(&mut cells[at..at + new.len()], new);
 }
 
 // Cells taken out from a place on.

@@ -1,5 +1,5 @@
 -- Rows one behind another in cells, as they come: `rows_in-few` (none), `rows_in-first` (one, and the rest), `rows_in-table` (those of a
--- table).
+-- table), `rows_in-behind` (from one of them on).
 use Prim.Native.Nat.{ℕ, ◌+◌, ◌*◌, ◌-◌, ◌≤◌, ◌<◌}
 use mathlib.Core.Path.{◌≡◌, refl, sym, ap, ◌∙◌}
 use mathlib.Core.List.{List, [], ◌∷◌}
@@ -33,3 +33,11 @@ pub rows_in-table : (t : List ℕ) (n : ℕ) → 1 + 3 * n ≤ length t → rows
 rows_in-table t n h =
     let e : 1 + 3 * n - 1 ≡ 3 * n = omega arith in
     ap (λ (k : ℕ). rows_in (take k (drop 1 t))) e ∙ ap rows_in (sym (cells-rows t n 1 h)) ∙ rows_in-cells (rows_at t n 1)
+
+-- the same of the rows from row i on
+pub rows_in-behind : (t : List ℕ) (n i : ℕ) → i ≤ n → 1 + 3 * n ≤ length t
+    → rows_in (take (1 + 3 * n - (1 + 3 * i)) (drop (1 + 3 * i) t)) ≡ rows_at t (n - i) (1 + 3 * i)
+rows_in-behind t n i h l =
+    let e : 1 + 3 * n - (1 + 3 * i) ≡ 3 * (n - i) = omega arith in
+    ap (λ (k : ℕ). rows_in (take k (drop (1 + 3 * i) t))) e ∙ ap rows_in (sym (cells-rows t (n - i) (1 + 3 * i) (omega arith)))
+    ∙ rows_in-cells (rows_at t (n - i) (1 + 3 * i))

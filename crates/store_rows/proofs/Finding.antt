@@ -10,7 +10,7 @@ use lib.Dec.{eqb, ltb}
 use borrow.Author.Tests.{lt-ltb, le-ltb, ltb-false}
 use Rattle.store_rows.specs.declared.rows.Row.{Row}
 use Rattle.std.proofs.Common.{Option, Some, None, ltb-true}
-use Rattle.std.specs.Prelude.{unwrap_or}
+use Rattle.std.specs.Prelude.{unwrap_or, IfSome}
 use Rattle.std.specs.Option.{is_some}
 use Rattle.std.proofs.lemmas.Bool.{not-true, not-false}
 use Rattle.std.specs.List.{fold, list_any, position, position_or_len, sum_by}
@@ -69,10 +69,6 @@ gap-fits want size least at i (r ∷ rows) h e =
     (λ q. fits_more (omega arith) (gap-fits want size least (r.start + r.octets) (i + 1) rows n.1 q)) e
 
 -- its place, as a search tells it
-place-case : (b : Bool) (f : ℕ) → cond (not b) None (Some f) ≡ cond b (Some f) None
-place-case true f = refl
-place-case false f = refl
-
 find-first : (x i : ℕ) (rs : List Row) → find_from x i rs ≡ i + position_or_len (λ r. eqb r.number x) rs
 unfolding find_from
 find-first x i [] = omega arith
@@ -82,14 +78,6 @@ find-first x i (r ∷ rs) = go (eqb r.number x) _ (find-first x (i + 1) rs)
     go true p e = omega arith
     go false p e = omega (arith, e)
 
-pub place_is : (x : ℕ) (rs : List Row) → place_of x rs ≡ position (λ r. eqb r.number x) rs
-unfolding place_of
-place_is x rs =
-    let f = position_or_len (λ (r : Row). eqb r.number x) rs in
-    let e : find_from x 0 rs ≡ f = find-first x 0 rs ∙ omega arith in
-    let l : 0 + length rs ≡ length rs = omega arith in
-    rw (find_absent x 0 rs, e, l) (place-case (ltb f (length rs)) f)
-
 find_few : (x i : ℕ) (rs : List Row) → find_from x i rs ≤ i + length rs
 unfolding find_from
 find_few x i [] = omega arith
@@ -98,6 +86,35 @@ find_few x i (r ∷ rs) = go (eqb r.number x) (find_few x (i + 1) rs)
     go : {f : ℕ} (b : Bool) → f ≤ i + 1 + length rs → cond b i f ≤ i + suc (length rs)
     go true h = omega arith
     go false h = omega (arith, h)
+
+found-case : (b : Bool) (f n : ℕ) {k : ℕ} → ltb f n ≡ b → Some k ≡ cond b (Some f) None → (k ≡ f) × (f < n)
+found-case true f n q e = (cc, ltb-true f n q)
+found-case false f n q e = cc
+
+past-case : (b : Bool) (f n : ℕ) → ltb f n ≡ b → ◌≡◌ {A = Option ℕ} None (cond b (Some f) None) → n ≤ f
+past-case true f n q e = cc
+past-case false f n q e = ltb-false f n q
+
+-- a search among rows of which the first is at i, and that end before n
+module _ (x i n : ℕ) (rs : List Row) (l : i + length rs ≡ n) where
+  pub place-on : {k : ℕ} → Some k ≡ position (λ r. eqb r.number x) rs → (i + k ≡ find_from x i rs) × (i + k < n)
+  place-on e =
+      let f = position_or_len (λ (r : Row). eqb r.number x) rs in
+      let g = found-case (ltb f (length rs)) f (length rs) refl e in
+      (omega (arith, g.0, find-first x i rs), omega (arith, g, l))
+
+  pub place-past : None ≡ position (λ r. eqb r.number x) rs → n ≡ find_from x i rs
+  place-past e =
+      let f = position_or_len (λ (r : Row). eqb r.number x) rs in
+      let g = past-case (ltb f (length rs)) f (length rs) refl e in
+      omega (arith, g, l, find-first x i rs, find_few x i rs)
+
+-- the place that was found, or none where they end
+pub place-told : (x n : ℕ) (rs : List Row) {o : Option ℕ} → length rs ≡ n → unwrap_or o n ≡ find_from x 0 rs → IfSome o (λ i. i < n)
+    → o ≡ place_of x rs
+unfolding place_of
+place-told x n rs {o = Some i} l e h = rw (found_here x 0 n rs e (omega (arith, l)) h, ← e)
+place-told x n rs {o = None} l e h = rw (found_nowhere x 0 n rs e (omega (arith, l)) (omega arith))
 
 pub place-some : (x : ℕ) (rs : List Row) {i : ℕ} → place_of x rs ≡ Some i → (absent x rs ≡ false) × (i ≡ find_from x 0 rs) × (i < length rs)
 unfolding place_of

@@ -13,8 +13,8 @@ fn hop(block: &mut [u8], from: usize, to: usize)
     ensures { block.new ≡ paste block.old to (drop from block.old) 64 }
 {
     let mut chunk = [0u8; CHUNK];
-    chunk.copy_from_slice(&block[from..from + CHUNK]);
-    block[to..to + CHUNK].copy_from_slice(&chunk);
+    rules::copy_over(&mut chunk, &block[from..from + CHUNK]);
+    rules::copy_over(&mut block[to..to + CHUNK], &chunk);
 }
 
 // n octets moved down, front to back: their old and new places may overlap. The few that are left go one by one.

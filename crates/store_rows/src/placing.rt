@@ -12,7 +12,7 @@ fn lay_row(table: &mut [u32], k: usize, r: Row)
     ensures { table.new ≡ row_laid table.old k r }
 {
     let cells = [r.number as u32, r.start as u32, r.octets as u32];
-    table[k..k + ROW_CELLS].copy_from_slice(&cells);
+    rules::copy_over(&mut table[k..k + ROW_CELLS], &cells);
 }
 
 // A row put in, i rows standing before it.

@@ -1,10 +1,10 @@
 // The greetings of a store, as a list that lies in a lent table (document 02, R-6): found, counted and judged.
 // What the cells mean stands in specs/Cells.
-ghost use Rattle.std.specs.Prelude.{◌≡◌, ◌+◌, ◌*◌, ◌-◌, ◌^◌, ◌≤◌, ◌<◌, min, length, get_or};
+ghost use Rattle.std.specs.Prelude.{◌≡◌, ◌+◌, ◌*◌, ◌-◌, ◌^◌, ◌≤◌, ◌<◌, min, length, get_or, unwrap_or, IfSome};
 ghost use Rattle.std.specs.Iterator.{YieldsFirst, item_count};
 ghost use Rattle.store_rows.specs.Limits.{is_number as in_range, largest_block, row_cells, list_cells};
 ghost use Rattle.store_rows.specs.Rows.{held as held_by};
-ghost use Rattle.store_rows.specs.Finding.{place_of, lowest_gap};
+ghost use Rattle.store_rows.specs.Finding.{find_from, place_of, lowest_gap};
 ghost use Rattle.store_rows.specs.Cells.{row_at, rows_in, rows_at, rows_of};
 ghost use Rattle.store_rows.specs.Sane.{rising, numbered, sane_of, Ordered};
 
@@ -89,12 +89,25 @@ pub fn row_at(table: &[u32], k: usize) -> Row
     }
 }
 
+// The place of a number among the greetings from `from` on.
+pub fn find_from(table: &[u32], n: usize, from: usize, number: usize) -> Option<usize>
+    requires { (from ≤ n) × (n ≤ 32) × (list_cells ≤ length table.now) }
+    ensures { (unwrap_or result n ≡ find_from number from (rows_at table.now (n - from) (1 + row_cells * from)))
+        × IfSome result (λ i. i < n) }
+{
+    let mut behind = Rows {
+        cells: &table[1 + ROW_CELLS * from..1 + ROW_CELLS * n],
+    };
+    let k = behind.position(|r| r.number == number)?;
+    Some(from + k)
+}
+
 // The place of a number among the greetings.
 pub fn find(table: &[u32], n: usize, number: usize) -> Option<usize>
     requires { (n ≤ 32) × (list_cells ≤ length table.now) }
     ensures { result ≡ place_of number (rows_at table.now n 1) }
 {
-    greetings(table, n).position(|r| r.number == number)
+    find_from(table, n, 0, number)
 }
 
 // Greetings of `least` octets or more, in order of start, apart, and inside the block.

@@ -197,7 +197,7 @@ fn put_rows(cells: &[u32], n: usize, table: &mut [u32])
     ensures { table.new ≡ laid (rows_at cells.now n 1) table.old }
 {
     let end = 1 + store_rows::rows::ROW_CELLS * n;
-    table[..end].copy_from_slice(&cells[..end]);
+    rules::copy_over(&mut table[..end], &cells[..end]);
 }
 
 // The greetings that were read into cells are put down with their notes.

@@ -12,7 +12,7 @@ pub fn put_word(word: &[u8], out: &mut [u8], at: usize) -> usize
     ensures { Puts out.old at word.now out.new result }
 {
     let next = at + word.len();
-    out[at..next].copy_from_slice(word);
+    rules::copy_over(&mut out[at..next], word);
     next
 }
 

@@ -2,7 +2,8 @@
 // read or written: what a line holds comes from crates `tool_words` and `text_lines`.
 #![tactic(auto)]
 
-ghost use Rattle.std.specs.Prelude.{◌≡◌, ◌^◌, ◌≤◌, ◌<◌, IfOk, length};
+ghost use Rattle.std.specs.Prelude.{◌≡◌, ◌^◌, ◌≤◌, ◌<◌, IfOk, IfSome, Some, length, pos};
+ghost use Rattle.std.specs.IoError.{raw_os_error};
 ghost use Rattle.tool_words.specs.Arguments.{law_of};
 
 use std::env::FillError;
@@ -13,6 +14,7 @@ use std::random::RandomSource;
 use std::rt::Env;
 use std::{fmt, fs, io};
 use tool_words::options::{Mistake, Settings, Tool, Words, Wrong};
+use tool_words::texts::is_same;
 
 // Says octets, such as a name. Where standard error takes nothing, nothing is said.
 // Octets and no &str: names of files and arguments need be no text.
@@ -83,9 +85,16 @@ fn say_usage(rt: HostRuntime, tool: Tool) {
     stop(rt, tool, 64, 0, 0, 0);
 }
 
-// A call that is wrong, why, and the last line.
-pub fn usage(rt: HostRuntime, tool: Tool, why: &str) {
-    tell(rt, tool, why);
+// A call that is wrong, why, and the last line. The octets that say why need be no text.
+pub fn usage(rt: HostRuntime, tool: Tool, why: &[u8]) {
+    match str::from_utf8(why) {
+        Ok(text) => tell(rt, tool, text),
+        Err(_) => {
+            let _ = eprint!(rt; "{tool}: ");
+            say(rt, why);
+            say(rt, b"\n");
+        }
+    }
     say_usage(rt, tool);
 }
 
@@ -95,7 +104,7 @@ pub fn law_of(rt: HostRuntime, s: Settings, name: &[u8]) -> Option<u32>
 {
     let law = tool_words::options::law_of(s, name);
     if law.is_none() {
-        usage(rt, s.tool, "the law is not known: say -u or -a");
+        usage(rt, s.tool, b"the law is not known: say -u or -a");
     }
     law
 }
@@ -168,16 +177,15 @@ pub fn settings(rt: HostRuntime, tool: Tool) -> Option<Settings> {
 }
 
 // The name of the file that an argument gives. It is empty where there is no argument or it is "-": that is standard input or output.
-pub fn file_name<'a>(rt: HostRuntime, index: Option<usize>, space: &'a mut [u8]) -> &'a [u8] {
+pub fn file_name<'a>(rt: HostRuntime, index: Option<usize>, space: &'a mut [u8]) -> &'a [u8]
+    ensures { length result.now ≤ length space.old }
+{
     let Some(i) = index else {
         return b"";
     };
     match rt.arg(i, space) {
-        Ok(n) => match &space[..n] {
-            b"-" => b"",
-            name => name,
-        },
-        Err(_) => b"",
+        Ok(n) if !is_same(&space[..n], b"-") => &space[..n],
+        _ => b"",
     }
 }
 
@@ -189,7 +197,9 @@ pub fn target_name<'a>(
     law: u32,
     source: &[u8],
     space: &'a mut [u8],
-) -> Option<&'a [u8]> {
+) -> Option<&'a [u8]>
+    ensures { IfSome result (λ name. length name.now ≤ length space.old) }
+{
     if s.outfile.is_some() {
         return Some(file_name(rt, s.outfile, space));
     }
@@ -300,15 +310,17 @@ fn say_why(rt: HostRuntime, why: io::Error) {
 }
 
 // The error where no call failed.
-pub fn no_error() -> io::Error {
+pub fn no_error() -> io::Error
+    ensures { raw_os_error result ≡ Some (pos 0) }
+{
     io::Error::from_raw_os_error(0)
 }
 
 // A file that could not be opened, read or written: why, and the last line.
-pub fn failed(rt: HostRuntime, tool: Tool, name: &[u8], standard: &str, why: io::Error) {
+pub fn failed(rt: HostRuntime, tool: Tool, name: &[u8], standard: &[u8], why: io::Error) {
     let _ = eprint!(rt; "{tool}: ");
     if name.is_empty() {
-        say(rt, standard.as_bytes());
+        say(rt, standard);
     } else {
         say(rt, name);
     }
@@ -320,11 +332,11 @@ pub fn failed(rt: HostRuntime, tool: Tool, name: &[u8], standard: &str, why: io:
 
 // The same of a file that is read, and of one that is written.
 pub fn unread(rt: HostRuntime, tool: Tool, name: &[u8], why: io::Error) {
-    failed(rt, tool, name, "standard input", why);
+    failed(rt, tool, name, b"standard input", why);
 }
 
 pub fn unwritten(rt: HostRuntime, tool: Tool, name: &[u8], why: io::Error) {
-    failed(rt, tool, name, "standard output", why);
+    failed(rt, tool, name, b"standard output", why);
 }
 
 // The names of what is read, and of what is written or compared.

@@ -1,4 +1,3 @@
 pub mod TextLaws
 pub mod Digits
 pub mod Names
-pub mod Endings

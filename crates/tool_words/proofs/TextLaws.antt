@@ -8,6 +8,7 @@ use native.Mathlib.Numerals.{add-one}
 use lib.ListN.{length, get_or, take, drop, length-append, length-drop, drop_of_length-le}
 use lib.Seq.{drop-cons, take-length, take_at, drop_at, drop-drop}
 use lib.Dec.{eqb, leb}
+use lib.Pointwise.{pointwise}
 use borrow.Author.Tests.{eq-eqb, ne_eqb, eqb-true, le-leb, lt-leb, leb-true}
 use Rattle.rules.proofs.Lent.{from_on}
 use Rattle.std.specs.Prelude.{Option, Some, None, IfSome}
@@ -39,6 +40,14 @@ module _ (a b : List ℕ) (i : ℕ) (p : i < length a) (q : i < length b) where
 pub same_end : (a b : List ℕ) (i : ℕ) → length a ≤ i → length b ≤ i → same (drop i a) (drop i b) ≡ true
 unfolding same
 same_end a b i p q = rw (drop_of_length-le a p, drop_of_length-le b q)
+
+-- the library compares two texts octet by octet too
+pub same_pointwise : (a b : List ℕ) → pointwise eqb a b ≡ same a b
+unfolding same
+same_pointwise [] [] = refl
+same_pointwise [] (y ∷ b) = refl
+same_pointwise (x ∷ a) [] = refl
+same_pointwise (x ∷ a) (y ∷ b) = ap (λ t. eqb x y && t) (same_pointwise a b)
 
 -- what is the same is equal
 pub same-equal : (a b : List ℕ) → same a b ≡ true → a ≡ b

@@ -3,7 +3,7 @@ ghost use Rattle.std.specs.Prelude.{◌≡◌, ◌∷◌, ◌+◌, ◌≤◌, le
 ghost use Rattle.tool_words.specs.Names.{place_after, ending_at, law_of_sound, law_of_stream, law_told, new_ending, new_name};
 ghost use Rattle.tool_words.specs.Texts.{Laid};
 
-use crate::texts::lay;
+use crate::texts::{is_same, lay};
 
 // Where an octet at place i leaves the ending's place.
 fn place_after(none: usize, place: usize, i: usize, octet: u8) -> usize
@@ -32,26 +32,30 @@ pub fn ending_at(name: &[u8]) -> usize
 }
 
 // The law that an ending of raw sound tells.
-#[tactic(auto, using(crate::proofs::Endings::ending_tests))]
+#[tactic(auto, unfolding(crate::specs::Names::law_of_sound))]
 fn law_of_sound(ending: &[u8]) -> Option<u32>
     ensures { result ≡ law_of_sound ending.now }
 {
-    match ending {
-        b"ul8" | b"mu8" | b"mu" => Some(1),
-        b"al8" | b"al" => Some(0),
-        _ => None,
+    if is_same(ending, b"ul8") || is_same(ending, b"mu8") || is_same(ending, b"mu") {
+        Some(1)
+    } else if is_same(ending, b"al8") || is_same(ending, b"al") {
+        Some(0)
+    } else {
+        None
     }
 }
 
 // The law that an ending of a stream tells.
-#[tactic(auto, using(crate::proofs::Endings::ending_tests))]
+#[tactic(auto, unfolding(crate::specs::Names::law_of_stream))]
 fn law_of_stream(ending: &[u8]) -> Option<u32>
     ensures { result ≡ law_of_stream ending.now }
 {
-    match ending {
-        b"lcm" => Some(1),
-        b"lca" => Some(0),
-        _ => None,
+    if is_same(ending, b"lcm") {
+        Some(1)
+    } else if is_same(ending, b"lca") {
+        Some(0)
+    } else {
+        None
     }
 }
 

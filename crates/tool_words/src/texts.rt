@@ -1,7 +1,15 @@
-// Texts: one laid at an output's start, and the number that one is.
+// Texts: whether two are the same, one laid at an output's start, and the number that one is.
 ghost use Rattle.std.specs.Prelude.{◌≡◌, ◌++◌};
 ghost use Rattle.tool_words.specs.Numbers.{number_in};
-ghost use Rattle.tool_words.specs.Texts.{Laid};
+ghost use Rattle.tool_words.specs.Texts.{same, Laid};
+
+// Whether two texts are the same.
+#[tactic(auto, using(crate::proofs::TextLaws::same_pointwise))]
+pub fn is_same(a: &[u8], b: &[u8]) -> bool
+    ensures { result ≡ same a.now b.now }
+{
+    a == b
+}
 
 // A decimal number of 1 to 9 digits, or none.
 pub fn number_in(text: &[u8]) -> Option<u32>

@@ -20,7 +20,7 @@ use tool_sound::sounds::{Trouble, Way};
 use tool_words::options::{Flags, Form, Settings, Tool};
 
 // A call that can't be met, why, and the last line.
-fn usage(rt: HostRuntime, why: &str) {
+fn usage(rt: HostRuntime, why: &[u8]) {
     tool_console::usage(rt, Tool::Unpack, why);
 }
 
@@ -216,7 +216,7 @@ fn to_other(rt: HostRuntime, file: &File, b: Body, how: Reading, s: Settings, na
     }
     match tool_console::target_name(rt, s, how.law, name, &mut space) {
         Some(to) => write_to(rt, file, b, how, s, Names { from: name, to }),
-        None => usage(rt, "OUTFILE's name would be too long"),
+        None => usage(rt, b"OUTFILE's name would be too long"),
     }
 }
 
@@ -234,7 +234,7 @@ fn with_stream(rt: HostRuntime, s: Settings, name: &[u8], fd: &File, size: usize
     if s.flags.lists {
         usage(
             rt,
-            "-v lists a recording's items, and this is a stream: listing lists its frames",
+            b"-v lists a recording's items, and this is a stream: listing lists its frames",
         );
         return;
     }
@@ -253,7 +253,7 @@ fn with_recording(rt: HostRuntime, s: Settings, law: u32, name: &[u8], fd: &File
     requires { heading_length ≤ size }
 {
     if s.law.unwrap_or(law) != law {
-        usage(rt, "the recording's heading says the other law");
+        usage(rt, b"the recording's heading says the other law");
         return;
     }
     let body = Body {
@@ -309,20 +309,20 @@ fn run(rt: HostRuntime, s: Settings, name: &[u8]) {
 }
 
 // Whether -l or -w can't be met, and why: a master that is compared is raw G.711, and no ending is known for another form.
-fn wrong_form(s: Settings, name: &[u8]) -> Option<&'static str> {
+fn wrong_form(s: Settings, name: &[u8]) -> Option<&'static [u8]> {
     if matches!(s.form, Form::Raw) {
         None
     } else if s.master.is_some() {
-        Some("-c compares raw G.711, so -l and -w don't go with it")
+        Some(b"-c compares raw G.711, so -l and -w don't go with it")
     } else if s.outfile.is_none() && !name.is_empty() {
-        Some("with -l or -w OUTFILE must be said")
+        Some(b"with -l or -w OUTFILE must be said")
     } else {
         None
     }
 }
 
 // Whether a master can't be met, and why.
-fn wrong_master(rt: HostRuntime, s: Settings, name: &[u8]) -> Option<&'static str> {
+fn wrong_master(rt: HostRuntime, s: Settings, name: &[u8]) -> Option<&'static [u8]> {
     if s.master.is_none() {
         return None;
     }
@@ -332,7 +332,7 @@ fn wrong_master(rt: HostRuntime, s: Settings, name: &[u8]) -> Option<&'static st
     let mut space = [0u8; 4095];
     let master = tool_console::file_name(rt, s.master, &mut space);
     if name.is_empty() && master.is_empty() {
-        return Some("INFILE and MASTER can't both be standard input");
+        return Some(b"INFILE and MASTER can't both be standard input");
     }
     None
 }

@@ -23,8 +23,7 @@ use Rattle.write_scan.specs.declared.Spread.{Spread}
 use Rattle.write_scan.specs.Looks.{near, SpreadIs}
 use Rattle.rules.proofs.Counts.{count-le}
 use Rattle.write_runs.proofs.Finding.{runs-common, runs_other}
-use Rattle.write_choice.specs.declared.settle.Settled.TheVariants.{Tool}
-use Rattle.write_choice.specs.Plans.{measured, value_tool, SettledTool, Settles}
+use Rattle.write_choice.specs.Plans.{measured, value_tool, SettledTool, Chosen}
 use Rattle.write_scan.proofs.Tests.{never, and_zero}
 use Rattle.write_located.proofs.Near.{located-near}
 use Rattle.write_zeros.proofs.TwoZeros.{rice-applies, rice-sum}
@@ -338,7 +337,7 @@ whole-few : (t n : ℕ) → n ≤ 320 → whole_bits t n ≤ 1000000000
 whole-few t n h = of_two (λ b. b ≤ 1000000000) (eqb t 1) (omega arith) (of_two (λ b. b ≤ 1000000000) (eqb t 4) (omega arith) (omega arith))
 
 pub settled-chosen : {mask set t b n : ℕ} {s : List ℕ} → SettledTool mask set s (Some t) → length s ≡ n → n ≤ 320
-    → b ≡ whole_bits t n → Settles mask set s (Tool (record { tool = t; bits = b }))
+    → b ≡ whole_bits t n → (Chosen mask set s (record { tool = t; bits = b })) × ((1 ≤ t) × (t ≤ 4))
 settled-chosen {mask} {set} {t} {b} {n} {s} p size few told = (
   record {
     tool = p.0;

@@ -1,5 +1,5 @@
 -- The choice, and what a plan tells of it: the tool, its bits, and what its form needs.
-use Rattle.std.specs.Prelude.{ℕ, ◌/◌, ◌≤◌, ◌≡◌, List, [], ◌∷◌, Option, Some, None, map, true, false, cond, ◌&&◌, length, eqb, leb}
+use Rattle.std.specs.Prelude.{ℕ, ◌/◌, ◌≤◌, ◌<◌, ◌≡◌, List, [], ◌∷◌, Option, Some, None, map, true, false, cond, ◌&&◌, length, eqb}
 use Rattle.rules.specs.Tools.{holds}
 use Rattle.rules.specs.Samples.{plus_zero, minus_zero}
 use Rattle.rules.specs.Zeros.{flag_of}
@@ -12,7 +12,7 @@ use Rattle.write_offers.specs.Ties.{taken, ChosenIs}
 use Rattle.write_choice.specs.declared.settle.Settled.{Settled}
 use Rattle.write_choice.specs.declared.settle.Settled.TheVariants.{Tool, Of}
 use Rattle.write_choice.specs.declared.settle.Kind.{Kind}
-use Rattle.write_choice.specs.declared.settle.Kind.TheVariants.{TwoZeros, Near, Other}
+use Rattle.write_choice.specs.declared.settle.Kind.TheVariants.{TwoZeros, Near, Short, Far}
 use Rattle.write_choice.specs.declared.plans.Plain.{Plain}
 use Rattle.write_choice.specs.declared.plans.ZerosPlan.{ZerosPlan}
 use Rattle.write_choice.specs.declared.plans.ZerosPlan.TheVariants.{Whole, Binary, Rice}
@@ -88,16 +88,20 @@ pub record NearFrame (mask : ℕ) (s : List ℕ) : Type 0 where
   pub close : near (least_of mask s) (greatest_of mask s) ≡ true
   pub long : 80 ≤ length s
 
+-- what the kind of a frame tells of its samples: whether all are zeros, and whether all are from -2 to 1
+abbrev pub OfKind : ℕ → List ℕ → Kind → Type 0
+OfKind mask s TwoZeros = (two_zeros mask s ≡ true) × (near (least_of mask s) (greatest_of mask s) ≡ true)
+OfKind mask s Near = NearFrame mask s
+OfKind mask s Short = (two_zeros mask s ≡ false) × (near (least_of mask s) (greatest_of mask s) ≡ true) × (length s < 80)
+OfKind mask s Far = (two_zeros mask s ≡ false) × (near (least_of mask s) (greatest_of mask s) ≡ false)
+
 -- a frame that is left, and of which kind it is
 abbrev pub KindIs : ℕ → ℕ → List ℕ → Kind → Type 0
-KindIs mask set s TwoZeros = (Left mask set s) × (two_zeros mask s ≡ true)
-KindIs mask set s Near = (Left mask set s) × (NearFrame mask s)
-KindIs mask set s Other =
-    (Left mask set s) × ((two_zeros mask s ≡ false) × ((near (least_of mask s) (greatest_of mask s) && leb 80 (length s)) ≡ false))
+KindIs mask set s kind = (Left mask set s) × (OfKind mask s kind)
 
--- what the look tells: the paper's choice, of tools 1 to 4; or the frame is left
+-- what the look tells: the paper's choice, of tools 1 to 4; or the frame is left. Its kind is told in both cases
 abbrev pub Settles : ℕ → ℕ → List ℕ → Settled → Type 0
-Settles mask set s (Tool c) = (Chosen mask set s c) × ((1 ≤ c.tool) × (c.tool ≤ 4))
+Settles mask set s (Tool c kind) = (Chosen mask set s c) × ((1 ≤ c.tool) × (c.tool ≤ 4)) × (OfKind mask s kind)
 Settles mask set s (Of kind) = KindIs mask set s kind
 
 -- a plan for such a frame

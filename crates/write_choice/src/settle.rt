@@ -1,9 +1,9 @@
 // The look at a frame: the choice where it settles it, else which plan does.
 
-ghost use Rattle.std.specs.Prelude.{◌≡◌, true, cond, ◌&&◌, ◌%◌, ◌<◌, get_or, Some, None, eqb, ltb};
+ghost use Rattle.std.specs.Prelude.{ℕ, ◌≡◌, true, cond, ◌&&◌, ◌%◌, ◌<◌, get_or, Some, None, eqb, ltb};
 ghost use Rattle.rules.specs.Tools as tools;
 ghost use Rattle.write_scan.specs.Looks.{SpreadIs, is_mask, FrameIn};
-ghost use Rattle.write_choice.specs.Plans.{value_tool, SettledTool, Settles};
+ghost use Rattle.write_choice.specs.Plans.{value_tool, SettledTool, OfKind, Settles};
 
 use first_octet::holds;
 use law::{minus_zero, plus_zero};
@@ -64,22 +64,36 @@ fn plain_tool(frame: &[u8], l: Spread, mask: u8, set: u32) -> Option<u32>
     }
 }
 
-// A frame that is left: of the two zeros; or one that value-location may apply to, of 80 samples or more from -2 to 1; or another.
+// The kind of a frame: of the two zeros; near, from -2 to 1 with a 1 or a -2, and of 80 samples or more, as value-location asks; short, of
+// such samples but fewer; or far, with a sample below -2 or above 1.
 #[derive(Clone, Copy, Drop)]
 pub enum Kind {
     TwoZeros,
     Near,
-    Other,
+    Short,
+    Far,
 }
 
-// What the look tells: the tool and the bits of its form, or of which kind the frame is that is left.
+// What the look tells: the tool and the bits of its form, or that the frame is left; and in either case of which kind the frame is.
 #[derive(Clone, Copy, Drop)]
 pub enum Settled {
-    Tool(Choice),
+    Tool(Choice, Kind),
     Of(Kind),
 }
 
-// The choice for a frame: it is looked at once. With the mask taken off, the low bits of both zeros are 0.
+// The kind of a frame: with the mask taken off, the low bits of both zeros are 0, those of 1 and -2 are 1.
+fn kind_of(frame: &[u8], l: Spread) -> Kind
+    ensures { (mask first : ℕ) → SpreadIs mask first frame.now l → OfKind mask frame.now result }
+{
+    match l.any % 128 {
+        0 => Kind::TwoZeros,
+        1 if 80 <= frame.len() => Kind::Near,
+        1 => Kind::Short,
+        _ => Kind::Far,
+    }
+}
+
+// The choice for a frame: it is looked at once.
 pub fn choose(frame: &[u8], mask: u8, set: u32) -> Settled
     requires { (FrameIn frame.now) × (is_mask mask ≡ true) }
     ensures { Settles mask set frame.now result }
@@ -88,10 +102,9 @@ pub fn choose(frame: &[u8], mask: u8, set: u32) -> Settled
     match plain_tool(frame, l, mask, set) {
         Some(tool) => {
             let bits = whole_bits(tool, frame.len());
-            Settled::Tool(Choice { tool, bits })
+            let kind = kind_of(frame, l);
+            Settled::Tool(Choice { tool, bits }, kind)
         }
-        None if l.any % 128 == 0 => Settled::Of(Kind::TwoZeros),
-        None if l.any % 128 < 2 && 80 <= frame.len() => Settled::Of(Kind::Near),
-        None => Settled::Of(Kind::Other),
+        None => Settled::Of(kind_of(frame, l)),
     }
 }

@@ -37,7 +37,7 @@ fn put_samples(out: &mut [u8], frame: &[u8])
     requires { length frame.now < length out.old }
     ensures { Copied frame.now (length frame.now) out.old out.new }
 {
-    out[1..=frame.len()].copy_from_slice(frame);
+    rules::copy_over(&mut out[1..=frame.len()], frame);
 }
 
 // The form of tools 1 to 4: whole octets, stored with no pen. Their number comes back.

@@ -185,7 +185,7 @@ fn fit_left(out: &mut [u8], frame: &[u8], mask: u8, set: u32, kind: Kind) -> Cho
     match kind {
         Kind::TwoZeros => fit_zeros(out, frame, mask, set),
         Kind::Near => fit_near(out, frame, mask, set),
-        Kind::Other => {
+        Kind::Short | Kind::Far => {
             let last = last_of(frame, mask, set);
             fit_plain(out, frame, mask, set, last)
         }
@@ -225,7 +225,7 @@ fn write_chosen(out: &mut [u8], frame: &[u8], mask: u8, set: u32) -> WriteAnswer
     ensures { WritesForm (full mask set frame.now) out.old out.new result }
 {
     match choose(frame, mask, set) {
-        Settled::Tool(choice) => write_whole(out, frame, choice),
+        Settled::Tool(choice, _) => write_whole(out, frame, choice),
         Settled::Of(kind) => write_left(out, frame, mask, set, kind),
     }
 }

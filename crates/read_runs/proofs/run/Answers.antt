@@ -12,7 +12,7 @@ returns-in_err-v c =
     rw (handed_on c.from_residual.result c.from_residual.ensures.1) (stopped (rw (refused c.rice.ensures c.in_err-v.was)))
 
 pub returns-then-left-v : goal.returns-then-left-v
-returns-then-left-v c = stopped (run_long _ _ _ _ _ (told c.rice.ensures c.in_ok-v.was).says c.if-left-v.true)
+returns-then-left-v c = stopped (run_long _ _ _ _ _ (told c.rice.ensures c.in_ok-v.was).says (omega arith))
 
 pub returns-else-left-v : goal.returns-else-left-v
 returns-else-left-v c =

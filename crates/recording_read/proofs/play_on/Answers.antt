@@ -55,20 +55,20 @@ returns-in-Err c =
 pub overflow_add-to : goal.overflow_add-to
 overflow_add-to c = omega (arith, (fits (goal.at.overflow_add-to c).In-Ok).2, lent_length c.loop-count.invariant.kept)
 
-pub slice_bounds-copy_from_slice-end : goal.slice_bounds-copy_from_slice-end
-slice_bounds-copy_from_slice-end c = (fits (goal.at.slice_bounds-copy_from_slice-end c).In-Ok).2
+pub slice_bounds-copy_over-end : goal.slice_bounds-copy_over-end
+slice_bounds-copy_over-end c = (fits (goal.at.slice_bounds-copy_over-end c).In-Ok).2
 
-pub slice_bounds-copy_from_slice-end-in-Ok : goal.slice_bounds-copy_from_slice-end-in-Ok
-slice_bounds-copy_from_slice-end-in-Ok c =
-    let f = fits (goal.at.slice_bounds-copy_from_slice-end-in-Ok c).In-Ok in
+pub slice_bounds-copy_over-end-in-Ok : goal.slice_bounds-copy_over-end-in-Ok
+slice_bounds-copy_over-end-in-Ok c =
+    let f = fits (goal.at.slice_bounds-copy_over-end-in-Ok c).In-Ok in
     omega (arith, length-take c.in-Ok.turn.len c.item_at.new.samples, f.1)
 
 pub slice_bounds-samples-end : goal.slice_bounds-samples-end
 slice_bounds-samples-end c = (fits (goal.at.slice_bounds-samples-end c).In-Ok).1
 
-pub copy_from_slice-requires : goal.copy_from_slice-requires
-copy_from_slice-requires c =
-    let f = fits (goal.at.copy_from_slice-requires c).In-Ok in
+pub copy_over-requires : goal.copy_over-requires
+copy_over-requires c =
+    let f = fits (goal.at.copy_over-requires c).In-Ok in
     simp (length-take, length-drop) (omega (arith, f.1, f.2))
 
 pub overflow_add-place : goal.overflow_add-place
@@ -83,7 +83,7 @@ loop-count-smaller c = omega arith
 pub loop-count-preserved : goal.loop-count-preserved
 loop-count-preserved c =
     play-turn _ _ _ _ _ _ _ c.loop-count.invariant (omega arith) (here (goal.at.loop-count-preserved c).Then-place-octets)
-    c.if-cells-count.false c.in-Ok.ensures (sound-put _ _ _ _ _ c.copy_from_slice.ensures.after)
+    c.if-cells-count.false c.in-Ok.ensures (sound-put _ _ _ _ _ c.copy_over.ensures.after)
 
 pub shape_of-out : goal.shape_of-out
 shape_of-out c = lent_length c.loop-count.invariant.kept

@@ -7,4 +7,4 @@ pub returns : goal.returns
 returns c =
     let s = c.args in
     opened-is s.cells.now s.at s.used s.new.now (omega arith) (omega arith) c.copy_within.ensures.after
-    (all-written c.copy_within.new.self s.at c.copy_from_slice.ensures.after (omega arith))
+    (all-written c.copy_within.new.self s.at c.copy_over.ensures.after (omega arith))

@@ -11,4 +11,4 @@ returns c =
     let a = c.args in
     let w = a.word.now in
     puts_word a.out.now w _ a.at (length w) (omega arith) refl
-    (put_mid-paste a.at _ a.out.now _ w (length w) c.copy_from_slice.ensures.after (omega arith) refl)
+    (put_mid-paste a.at _ a.out.now _ w (length w) c.copy_over.ensures.after (omega arith) refl)

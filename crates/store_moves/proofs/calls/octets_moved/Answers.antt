@@ -11,7 +11,7 @@ pub overflow_add-moved : goal.overflow_add-moved
 overflow_add-moved c =
     omega (
       arith,
-      summing-few c.loop-r.invariant c.in-Some.ensures.steps c.moved_one-moved.ensures,
+      summing-few c.loop-r.invariant c.in-Some.ensures.steps _ c.moved_one-moved.ensures,
       summing-room c.loop-r.invariant c.in-Some.ensures.steps,
       c.requires.2,
     )

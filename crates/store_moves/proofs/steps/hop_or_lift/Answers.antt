@@ -20,4 +20,4 @@ returns c =
     let n = from + c.min.result - from in
     let long = length-take-le n (drop from a.block.now) (omega (arith, c.min.ensures, length-drop from a.block.now, t.inside, t.some)) in
     step-lift a.block.now a.spare.now a.m t (omega arith) c.min.ensures refl
-    (all-written a.spare.now 0 c.copy_from_slice.ensures.after (omega (arith, long)))
+    (all-written a.spare.now 0 c.copy_over.ensures.after (omega (arith, long)))

@@ -11,5 +11,5 @@ returns c =
     let a = c.args in
     let k = c.min-k.result in
     step-lay a.block.now a.spare.now a.m c.min-k.ensures refl
-    (all-written a.block.now (a.m.to + a.m.done) c.copy_from_slice.ensures.after
+    (all-written a.block.now (a.m.to + a.m.done) c.copy_over.ensures.after
     (omega (arith, length-take-le k a.spare.now (omega (arith, c.min-k.ensures))))) c.grown.ensures

@@ -13,7 +13,7 @@ returns-then-b-i-clause-value c =
       | then-b-i-via-then-b-i w ↦ sym (l.invariant.1 ∙ agree-second s.a.now s.b.now l.i w.if-b-i.true)
       | then-b-i-via-else-b-i+then-b-i-2 w ↦
           sym (l.invariant.1
-          ∙ agree_differ s.a.now s.b.now l.i (omega arith) (omega (arith, w.if-b-i.false)) (λ e. w.if-b-i-2.true (sym e)))
+          ∙ agree_differ s.a.now s.b.now l.i (omega arith) (omega (arith, w.if-b-i.false)) (λ e. omega (arith, w.if-b-i-2.true)))
     ]
 
 pub loop-i-preserved : goal.loop-i-preserved

@@ -11,4 +11,6 @@ pub plain_tool-requires : goal.plain_tool-requires
 plain_tool-requires c = record { frame_in = c.requires; spread_is = c.spread_of-l.ensures }
 
 pub returns-in-Some : goal.returns-in-Some
-returns-in-Some c = settled-chosen c.in-Some.ensures refl c.requires.0.few c.whole_bits-bits.ensures
+returns-in-Some c =
+    let t = settled-chosen c.in-Some.ensures refl c.requires.0.few c.whole_bits-bits.ensures in
+    (t.0, t.1, c.kind_of-kind.ensures c.args.mask _ c.spread_of-l.ensures)
