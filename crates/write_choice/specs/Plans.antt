@@ -1,5 +1,6 @@
 -- The choice, and what a plan tells of it: the tool, its bits, and what its form needs.
-use Rattle.std.specs.Prelude.{ℕ, ◌/◌, ◌≤◌, ◌<◌, ◌≡◌, List, [], ◌∷◌, Option, Some, None, map, true, false, cond, ◌&&◌, length, eqb}
+use Rattle.std.specs.Prelude.{ℕ, ◌/◌, ◌≤◌, ◌<◌, ◌≡◌, List, [], ◌∷◌, map, length, Option, Some, None}
+use Rattle.std.specs.Prelude.{true, false, cond, ◌&&◌, eqb}
 use Rattle.rules.specs.Tools.{holds}
 use Rattle.rules.specs.Samples.{plus_zero, minus_zero}
 use Rattle.rules.specs.Zeros.{flag_of}
